@@ -35,7 +35,9 @@ impl<'a, K> PlainRow<'a, K> {
         ensures empty { λ r. ⌜ r .lent .len ≡ 0 ⌝ }
         ensures room { λ r. ⌜ length (now (r .lent .keys)) ≡ length (now (keys .entry)) ⌝ }
     {
-        PlainRow { lent: Lent { keys, len: 0 } }
+        PlainRow {
+            lent: Lent { keys, len: 0 },
+        }
     }
 }
 

@@ -19,6 +19,7 @@ returns g c =
     let w = c .put .ensures .width in
     let n = none-found _ _ (c .find .result) (c .find .ensures) (sym (c .is-some .ensures) ∙ c .if-is-some .left) in
     record {
-        inserts = λ _. ((n, omega arith, omega arith), cc);
-        sound = λ _. tt;
-        kept = search needs }
+      inserts = λ _. ((n, omega arith, omega arith), cc);
+      sound = λ _. tt;
+      kept = search needs;
+    }

@@ -8,5 +8,6 @@ pub returns : need.returns
 returns g c =
     let l = length-take-le (c .args .self .now .lent .len) (c .args .self .now .lent .keys .now) (omega arith) in
     record {
-        counts = λ _. sym l;
-        lawful = λ _. record { apart = told-apart _ (c .args .self .now .apart); fits = omega arith } }
+      counts = λ _. sym l;
+      lawful = λ _. record { apart = told-apart _ (c .args .self .now .apart); fits = omega arith };
+    }

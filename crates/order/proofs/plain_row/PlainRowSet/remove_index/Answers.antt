@@ -17,6 +17,7 @@ returns g c =
     let d = c .remove .ensures .order in
     let w = c .remove .ensures .width in
     record {
-        removes = λ _. (c .at-key .ensures, cc);
-        sound = λ _. tt;
-        kept = search needs }
+      removes = λ _. (c .at-key .ensures, cc);
+      sound = λ _. tt;
+      kept = search needs;
+    }

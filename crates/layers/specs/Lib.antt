@@ -1,0 +1,4 @@
+pub mod Cursor
+pub mod Last
+pub mod Limit
+pub mod Splice
