@@ -5,7 +5,7 @@ ghost use mathlib.Core.Bool.{true, false};
 ghost use denote.Ref.{now};
 ghost use lib.ListN.{length, take};
 ghost use Rattle.std.specs.Holes.{inserted, removed};
-ghost use Rattle.order.specs.Order.{At, Distinct, Found};
+ghost use Rattle.order.specs.Order.{At, Distinct, Found, vacant};
 ghost use Rattle.order.specs.Plain.{laid};
 use crate::fault::SetFault;
 use crate::key::Key;
@@ -31,9 +31,10 @@ pub struct PlainRow<'a, K> {
 }
 
 impl<'a, K> PlainRow<'a, K> {
+    // No key in the row yet; of a slice longer than the most that a row takes, the first ones count.
     pub fn new(keys: &'a mut [K]) -> PlainRow<'a, K>
-        ensures empty { λ r. ⌜ r .lent .len ≡ 0 ⌝ }
-        ensures room { λ r. ⌜ length (now (r .lent .keys)) ≡ length (now (keys .entry)) ⌝ }
+        ensures starts { λ r. ⌜ laid (now (r .lent .keys)) (r .lent .len) ≡ vacant (min (length (now (keys .entry))) 4096) ⌝ }
+        ensures keys { λ r. ⌜ now (r .lent .keys) ≡ now (keys .entry) ⌝ }
     {
         PlainRow {
             lent: Lent { keys, len: 0 },
