@@ -182,8 +182,10 @@ fn put_in<K: Copy>(keys: &mut [K], len: usize, place: usize, key: K)
     requires { ⌜ len < length (now keys) ⌝ ∗ ⌜ place ≤ len ⌝ }
     ensures { λ _. ⌜ take (len + 1) (now (keys .exit)) ≡ inserted (take len (now (keys .entry))) place key ⌝ }
 {
-    keys[len] = key;
-    keys[place..len + 1].rotate_right(1);
+    for at in (place..len).rev() {
+        keys[at + 1] = keys[at];
+    }
+    keys[place] = key;
 }
 
 // Takes out what stands at a place of the first len keys.
@@ -191,5 +193,7 @@ fn take_out<K: Copy>(keys: &mut [K], len: usize, place: usize)
     requires { ⌜ len ≤ length (now keys) ⌝ ∗ ⌜ place < len ⌝ }
     ensures { λ _. ⌜ take (len - 1) (now (keys .exit)) ≡ removed (take len (now (keys .entry))) place ⌝ }
 {
-    keys[place..len].rotate_left(1);
+    for at in place + 1..len {
+        keys[at - 1] = keys[at];
+    }
 }
