@@ -1,0 +1,23 @@
+// The test program: worked examples, the edges of every refusal, piles of layers, and random runs against a plain model.
+mod edges;
+mod model;
+mod piles;
+mod random;
+mod sample;
+mod splices;
+mod tally;
+
+use std::io;
+use tally::Tally;
+
+fn main(rt: LibcRuntime) -> io::Result<()> {
+    let mut tally = Tally::new();
+    edges::plain_rows(&mut tally);
+    tally.close(&rt, "plain row")?;
+    piles::piles(&mut tally);
+    tally.close(&rt, "piles of layers")?;
+    splices::examples(&mut tally);
+    tally.close(&rt, "push, splice and cursor")?;
+    random::runs(&rt, &mut tally)?;
+    tally.close(&rt, "random runs against the model")
+}
