@@ -1,0 +1,78 @@
+-- What stands at a place, and which places below one more are passed.
+use Prim.Native.Nat.{ℕ, _+_, _<_, _≤_}
+use mathlib.Core.Path.{_≡_, refl, sym, ap, subst, _∙_, fun-ext}
+use mathlib.Core.Bool.{Bool, true, false}
+use mathlib.Core.List.{List, [], _∷_}
+use mathlib.Core.Logic.{_⊎_, inl, inr, ⊎-elim}
+use native.Mathlib.Omega.{arith}
+use lib.ListN.{length, getD, drop, replicate}
+use Rattle.std.proofs.shelf.Lists.{getD-set-same, getD-set-other, getD-default, getD-past, getD-replicate, length-replicate}
+use Rattle.std.specs.declared.option.Option.{Option}
+use Rattle.std.specs.declared.option.Option.the-variants.{Some, None}
+use Rattle.order.specs.Order.{At, Meaning}
+use Rattle.book.specs.declared.rule.Rule.{Rule}
+use Rattle.order.specs.declared.keys.RuleNumber.{RuleNumber}
+use Rattle.book.specs.Rules.{Matches, NoneBelow, Covers, recorded, with-rule, Pages}
+use borrow.Author.Tests.{eq-eqb, ne-eqb}
+use mathlib.Core.Bool.{cond}
+use Rattle.std.proofs.shelf.Tests.{cases-eq}
+use lib.ListN.{set}
+use lib.Dec.{eqb}
+
+-- one key stands at a place
+pub at-same : {A : Type 0} (xs : List A) (i : ℕ) (x y : A) → At xs i x → At xs i y → x ≡ y
+at-same xs i x y a b = sym (a .1) ∙ getD-default xs i x y (a .0) ∙ b .1
+
+pub below-or-at : (i p : ℕ) → i < p + 1 → (i < p) ⊎ (i ≡ p)
+below-or-at i p h = grind arith
+
+pub below-or-past : (i p : ℕ) → (i < p) ⊎ (p ≤ i)
+below-or-past i p = grind arith
+
+-- the place p is passed when the key there does not match
+pub none-more : (xs : List RuleNumber) (ruled : ℕ → Option Rule) (t c p : ℕ) (n : RuleNumber)
+    → NoneBelow xs ruled t c p → At xs p n → (Matches ruled t c (n .value) → ⊥) → NoneBelow xs ruled t c (p + 1)
+none-more xs ruled t c p n below here unmatched i k lt at m =
+    ⊎-elim (λ l. below i k l at m)
+    (λ e. let q = at-same xs p k n (subst (λ (j : ℕ). At xs j k) e at) here in
+    unmatched (subst (λ (x : RuleNumber). Matches ruled t c (x .value)) q m))
+    (below-or-at i p lt)
+
+-- a number does not match when its rule does not cover, or when it has none
+pub unmatched-rule : (ruled : ℕ → Option Rule) (t c n : ℕ) (rule : Rule) (b : Bool)
+    → ruled n ≡ Some rule → (Covers rule t c → b ≡ true) → b ≡ false → Matches ruled t c n → ⊥
+unmatched-rule ruled t c n rule b has covers left (other, is, m) =
+    let e : other ≡ rule = cc in
+    let m' = subst (λ (x : Rule). Covers x t c) e m in
+    let y = covers m' in
+    let z : _≡_ {A = ℕ} 0 1 = cc in omega arith
+
+pub unmatched-none : (ruled : ℕ → Option Rule) (t c n : ℕ) → ruled n ≡ None → Matches ruled t c n → ⊥
+unmatched-none ruled t c n has (other, is, m) = let z : _≡_ {A = ℕ} 0 1 = cc in omega arith
+
+-- a table of records that were never written, and one with a record written anew
+pub none-recorded : (size : ℕ) → recorded (replicate size None) ≡ (λ (_ : ℕ). None)
+none-recorded size = fun-ext (λ n.
+    ⊎-elim (λ lt. getD-replicate size n None None lt)
+    (λ le. getD-past (replicate size None) n None (simp length-replicate le)) (below-or-past n size))
+
+same-or-other : (k n : ℕ) → (k ≡ n) ⊎ (k ≡ n → ⊥)
+same-or-other k n = cases-eq k n
+
+pub recorded-set : (records : List (Option Rule)) (n : ℕ) (entry : Option Rule) → n < length records
+    → recorded (set records n entry) ≡ with-rule n entry (recorded records)
+recorded-set records n entry lt = fun-ext (λ k.
+    ⊎-elim
+    (λ e. ap (recorded (set records n entry)) e ∙ getD-set-same records n entry None lt ∙ sym (ap (λ (b : Bool). cond b entry (recorded records k)) (eq-eqb k n e)))
+    (λ ne. getD-set-other records n k entry None ne ∙ sym (ap (λ (b : Bool). cond b entry (recorded records k)) (ne-eqb k n ne)))
+    (same-or-other k n))
+
+-- a list is what stands at its front, and the rest
+pub at-front : {A : Type 0} (xs : List A) (x : A) → At xs 0 x → xs ≡ x ∷ drop 1 xs
+at-front [] x (lt, is) = absurd (omega arith)
+at-front (y ∷ xs) x (lt, is) = ap (λ (z : _). z ∷ xs) is
+
+-- pages of the same numbers and the same records
+pub same-pages : {v w : Meaning RuleNumber} {r s : List (Option Rule)} → w ≡ v → s ≡ r
+    → _≡_ {A = Pages} (record { numbers = w; rules = recorded s }) (record { numbers = v; rules = recorded r })
+same-pages p q = cc

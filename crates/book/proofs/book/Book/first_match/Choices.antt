@@ -1,0 +1,12 @@
+use mathlib.Core.Path.{_≡_}
+use Rattle.book.specs.Rules.{NoneBelow, recorded}
+use Rattle.book.proofs.book.Book.first_match.Given as given
+
+abbrev pub Inv-loop-place : given.InvT-loop-place
+Inv-loop-place g l =
+    (g .S·OrderedSet .body (l .self .set) ≡ g .S·OrderedSet .body (l .entry .self .set))
+    × (l .self .rules ≡ l .entry .self .rules)
+    × (g .S·OrderedSet .sound (l .entry .self .set)
+    → g .S·OrderedSet .sound (l .self .set)
+    × (g .S·OrderedSet .meaning (l .self .set) ≡ g .S·OrderedSet .meaning (l .entry .self .set))
+    × NoneBelow (g .S·OrderedSet .meaning (l .entry .self .set) .order) (recorded (l .entry .self .rules)) (l .turnout) (l .class) (l .place))

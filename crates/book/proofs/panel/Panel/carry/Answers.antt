@@ -1,0 +1,55 @@
+use mathlib.Core.Path.{_≡_, refl, sym, ap, subst}
+use Rattle.book.specs.declared.book.Book.{Book}
+use Rattle.book.specs.Rules.{pages}
+use Rattle.book.specs.Runs.{Carries}
+use Rattle.book.specs.Yards.{board}
+use Rattle.book.proofs.Carrying.{as-call, refused-placed, refused-sent}
+use Rattle.book.proofs.panel.Panel.carry.Needs as need
+
+pub returns-in-Add : need.returns-in-Add
+unfolding Carries
+returns-in-Add g c = record {
+  answers = λ h. as-call _ _ (c .args .call) _ _ (c .in-Add .is) (c .add .result, c .placed-answer .ensures, c .add .ensures .adds (h .0), refl);
+  sound = λ h. (c .add .ensures .sound (h .0), h .1);
+  kept = λ h turned. let e = c .add .ensures .kept (refused-placed _ _ (c .placed-answer .ensures) turned) in cc;
+}
+
+pub returns-in-Drop : need.returns-in-Drop
+unfolding Carries
+returns-in-Drop g c = record {
+  answers = λ h. as-call _ _ (c .args .call) _ _ (c .in-Drop .is) (c .drop-rule .result, c .placed-answer-in-Drop .ensures, c .drop-rule .ensures .drops (h .0), refl);
+  sound = λ h. (c .drop-rule .ensures .sound (h .0), h .1);
+  kept = λ h turned. let e = c .drop-rule .ensures .kept (refused-placed _ _ (c .placed-answer-in-Drop .ensures) turned) in cc;
+}
+
+pub returns-in-Move : need.returns-in-Move
+unfolding Carries
+returns-in-Move g c = record {
+  answers = λ h. as-call _ _ (c .args .call) _ _ (c .in-Move .is) (c .move-rule .result, c .placed-answer-in-Move .ensures, c .move-rule .ensures .moves (h .0), refl);
+  sound = λ h. (c .move-rule .ensures .sound (h .0), h .1);
+  kept = λ h turned. let e = c .move-rule .ensures .kept (h .0) (refused-placed _ _ (c .placed-answer-in-Move .ensures) turned) in cc;
+}
+
+pub returns-in-Join : need.returns-in-Join
+unfolding Carries
+returns-in-Join g c = record {
+  answers = λ h. as-call _ _ (c .args .call) _ _ (c .in-Join .is) (c .join .result, c .placed-answer-in-Join .ensures, c .join .ensures .joins (h .1), ap (pages (g .R·OrderedSet .meaning)) (c .join .ensures .book));
+  sound = λ h. (subst (g .R·OrderedSet .sound) (ap (λ (b : Book (g .R .Denot)). b .set) (sym (c .join .ensures .book))) (h .0), c .join .ensures .sound (h .1));
+  kept = λ h turned. let e = c .join .ensures .kept (refused-placed _ _ (c .placed-answer-in-Join .ensures) turned) in let f = c .join .ensures .book in cc;
+}
+
+pub returns-in-Send : need.returns-in-Send
+unfolding Carries
+returns-in-Send g c = record {
+  answers = λ h. as-call _ _ (c .args .call) _ _ (c .in-Send .is) (c .send .result, c .sent-answer .ensures, c .send .ensures .sends h);
+  sound = c .send .ensures .sound;
+  kept = λ h turned. c .send .ensures .kept (refused-sent _ _ (c .sent-answer .ensures) turned);
+}
+
+pub returns-in-Decide : need.returns-in-Decide
+unfolding Carries
+returns-in-Decide g c = record {
+  answers = λ h. as-call _ _ (c .args .call) _ _ (c .in-Decide .is) (c .decide .result, c .decided-answer .ensures, c .decide .ensures .decides (h .0), let e = c .decide .ensures .same (h .0) in cc);
+  sound = λ h. (c .decide .ensures .sound (h .0), h .1);
+  kept = λ h turned. let e = c .decide .ensures .kept in cc;
+}

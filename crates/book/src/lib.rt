@@ -1,0 +1,5 @@
+pub mod book;
+pub mod call;
+pub mod fault;
+pub mod panel;
+pub mod rule;
