@@ -11,10 +11,10 @@ use Rattle.book.specs.declared.fault.BookFault.{BookFault}
 use Rattle.book.specs.declared.call.Call.{Call}
 use Rattle.book.specs.declared.call.Answer.{Answer}
 use Rattle.book.specs.Yards.{Board}
-use Rattle.book.specs.Runs.{Carries, accepted, placed, sent}
+use Rattle.book.specs.Calls.{Carries, accepted, placed, sent}
 
-pub as-call : (v w : Board) (call call′ : Call) (a : Answer) → call ≡ call′ → Carries v call′ a w → Carries v call a w
-as-call v w call call′ a e carried = subst (λ (x : Call). Carries v x a w) (sym e) carried
+pub as-call : (v w : Board) (call call′ : Call) (a : Answer) → call ≡ call′ → Carries call′ a v w → Carries call a v w
+as-call v w call call′ a e carried = subst (λ (x : Call). Carries x a v w) (sym e) carried
 
 accepted-placed : (r : Result ℕ BookFault) → accepted (placed r) ≡ isOk r
 accepted-placed (Ok p) = refl

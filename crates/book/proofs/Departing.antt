@@ -18,11 +18,16 @@ use Rattle.book.specs.declared.call.Call.the-variants.{Send}
 use Rattle.book.specs.declared.call.Answer.{Answer}
 use Rattle.book.specs.declared.call.Answer.the-variants.{Sent}
 use Rattle.book.specs.declared.call.Turn.{Turn}
-use Rattle.book.specs.Rules.{Decides}
+use Rattle.book.specs.declared.call.Call.{Call}
+use Rattle.book.specs.Books.{Turnout}
+use Rattle.book.specs.Calls.{Carries, sent, turn}
+use Rattle.book.specs.Law.{Follows, RouteLaw, SameFront, before}
+use Rattle.book.specs.Pages.{Decides, approach}
+use Rattle.book.specs.Runs.{gathered, joined, joining, leaving, left, reached, waiting}
 use Rattle.book.specs.Yards.{Board, SendFault, SendAnswer}
-use Rattle.book.specs.Runs.{Follows, FirstSend, Obeys, RouteLaw, built, gathered, joined, joining, leaving, left, reached, sent, turn, waiting}
 use Rattle.book.proofs.Places.{at-same}
-use Rattle.book.proofs.Following.{gathered-append, gathered-push, is-reached, waits-rest}
+use Rattle.book.proofs.Following.{follow-turn, gathered-append, gathered-push, is-reached, waits-rest}
+use Rattle.book.proofs.Answering.{decided-so, departs-so, faulted-so, refused-leads}
 
 -- what an earlier part of a history gives stands at the front of what a later one gives
 gathered-front : (f : Turn → List TrainTag) (h : List Turn) (j i : ℕ) → j ≤ i
@@ -55,41 +60,50 @@ next-joined n xs x at =
     let here : n + 0 ≡ n = omega arith in
     (omega (arith, at .0), ap (λ (k : ℕ). getD xs k x) (sym here) ∙ sym (getD-drop n xs 0 x) ∙ at .1)
 
-refused-wrongly : (start : Board) (h : List Turn) (u : ℕ) (f : BookFault) → 1 ≤ u → u ≤ 2000 → length (left h) < length (joined h) → SendFault (waiting (start .yard) h) u f → ⊥
-refused-wrongly start h u f low high lt reasons =
-    ⊎-elim (λ off. ⊎-elim (λ a. omega arith) (λ a. omega arith) (off .1))
-    (λ none. let e = ap length (none .3) in let d = length-drop (length (left h)) (joined h) in omega arith) reasons
+refused-wrongly : (start : Board) (h : List Turn) (u : ℕ) (f : BookFault) → Turnout u → length (left h) < length (joined h) → SendFault u f (waiting (start .yard) h) → ⊥
+refused-wrongly start h u f on lt reasons =
+    ⊎-elim (λ off. off .1 on)
+    (λ none. let e = ap length (none .2) in let d = length-drop (length (left h)) (joined h) in omega arith) reasons
 
 found-none : (start : Board) (h : List Turn) (j i u : ℕ) (tag : TrainTag) (a : Answer) (r : Result (Option (TrainTag × ℕ × ℕ)) BookFault)
-    → j < i → At h j (turn (Send u) a) → 1 ≤ u → u ≤ 2000
-    → length (left (take j h)) ≡ length (left (take i h)) → length (left (take j h)) < length (joined (take j h))
-    → At (joined (take i h)) (length (left (take i h))) tag → a ≡ sent r → SendAnswer (reached start (take j h)) u r
-    → Decides (built (start .book) (take j h) .numbers .order) (built (start .book) (take j h) .rules) u (tag .class) None
-found-none start h j i u tag a (Ok (Some d)) lt at low high still in-yard next e b =
+    → j < i → At h j (turn (Send u) a) → Turnout u → SameFront h j i
+    → At (joined (take i h)) (length (left (take i h))) tag → a ≡ sent r → SendAnswer u r (before start h j)
+    → Decides (before start h j .book) (approach u (tag .class)) None
+found-none start h j i u tag a (Ok (Some d)) lt at on (in-yard, still) next e b =
     let more = left-more h j i (turn (Send u) (Sent (Some d))) lt (subst (λ (x : Answer). At h j (turn (Send u) x)) e at) in absurd (omega arith)
-found-none start h j i u tag a (Ok None) lt at low high still in-yard next e (_, _, (front, here, none)) =
+found-none start h j i u tag a (Ok None) lt at on (in-yard, still) next e (_, (front, here, none)) =
     let next′ = subst (λ (k : ℕ). At (joined (take i h)) k tag) (sym still) next in
     let same = at-same (joined (take j h)) (length (left (take j h))) front tag (next-joined _ _ front here) (joined-stays h j i _ tag (omega arith) in-yard next′) in
-    subst (λ (x : TrainTag). Decides (built (start .book) (take j h) .numbers .order) (built (start .book) (take j h) .rules) u (x .class) None) same none
-found-none start h j i u tag a (Err f) lt at low high still in-yard next e b =
-    absurd (refused-wrongly start (take j h) u f low high in-yard b)
+    subst (λ (x : TrainTag). Decides (before start h j .book) (approach u (x .class)) None) same none
+found-none start h j i u tag a (Err f) lt at on (in-yard, still) next e b =
+    absurd (refused-wrongly start (take j h) u f on in-yard b)
 
 -- the train that a send let go was the next of those that joined
 was-next : (start : Board) (h : List Turn) (t : ℕ) (d : TrainTag × ℕ × ℕ) (r : Result (Option (TrainTag × ℕ × ℕ)) BookFault)
-    → Sent (Some d) ≡ sent r → SendAnswer (reached start h) t r → At (joined h) (length (left h)) (d .0)
+    → Sent (Some d) ≡ sent r → SendAnswer t r (reached start h) → At (joined h) (length (left h)) (d .0)
 was-next start h t d (Ok (Some d′)) e b =
     let same : d′ ≡ d = cc in
-    subst (λ (x : TrainTag × ℕ × ℕ). At (joined h) (length (left h)) (x .0)) same (next-joined _ _ (d′ .0) (b .2))
+    subst (λ (x : TrainTag × ℕ × ℕ). At (joined h) (length (left h)) (x .0)) same (next-joined _ _ (d′ .0) (b .1 .0))
 was-next start h t d (Ok None) e b = let z : _≡_ {A = ℕ} 0 1 = cc in absurd (omega arith)
 was-next start h t d (Err f) e b = let z : _≡_ {A = ℕ} 0 1 = cc in absurd (omega arith)
 
 pub route-law : (start : Board) (h : List Turn) (v : Board) → Follows start h v → RouteLaw start h v
 route-law start h v follows = record {
+  decided-first = λ i turnout class d at. decided-so (before start h i) turnout class d (follows .obeyed i _ at);
+  sent-first = λ i turnout d at. departs-so (before start h i) turnout d (follows .obeyed i _ at);
+  refused-so = λ i call f at. faulted-so (before start h i) call f (follows .obeyed i _ at);
+  refused-same = λ i call f at. refused-leads start h i call f at;
   obeyed = follows .obeyed;
   in-turn = follows .yard-waits ∙ ap (λ (ts : List TrainTag). left h ++ ts) (waits-rest start h v follows);
-  first-send = λ i j t u d a at lt at′ low high still in-yard.
+  first-send = λ i j t u d a at lt at′ on same.
       let then′ = follows .obeyed i (turn (Send t) (Sent (Some d))) at in
       let now′ = follows .obeyed j (turn (Send u) a) at′ in
-      found-none start h j i u (d .0) a (now′ .0) lt at′ low high still in-yard (was-next start (take i h) t d (then′ .0) (then′ .1) (then′ .2)) (now′ .1) (now′ .2);
+      found-none start h j i u (d .0) a (now′ .0) lt at′ on same (was-next start (take i h) t d (then′ .0) (then′ .1) (then′ .2)) (now′ .1) (now′ .2);
   leads = is-reached start h v follows;
 }
+
+-- a history goes on with one more turn, lawfully
+pub go-on : (start : Board) (h : List Turn) (v : Board) → Follows start h v → (w : Board) (call : Call) (a : Answer)
+    → Carries call a v w → Follows start (h ++ turn call a ∷ []) w × RouteLaw start (h ++ turn call a ∷ []) w
+go-on start h v follows w call a carried =
+    let on = follow-turn start h v follows w call a carried in (on, route-law start (h ++ turn call a ∷ []) w on)

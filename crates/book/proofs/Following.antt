@@ -26,9 +26,12 @@ use Rattle.book.specs.declared.call.Call.the-variants.{Add, Drop, Move, Join, 
 use Rattle.book.specs.declared.call.Answer.{Answer}
 use Rattle.book.specs.declared.call.Answer.the-variants.{Placed, Decided, Sent, Refused}
 use Rattle.book.specs.declared.call.Turn.{Turn}
-use Rattle.book.specs.Rules.{Pages, key, leave, reordered, rewritten, Adds, Answers, Drops, Moves}
+use Rattle.book.specs.Books.{Adds, Answers, Drops, Moves}
+use Rattle.book.specs.Calls.{Carries, Obeys, decided, placed, sent, turn}
+use Rattle.book.specs.Law.{Follows, Obeyed}
+use Rattle.book.specs.Pages.{Pages, approach, key, reordered, rewritten}
+use Rattle.book.specs.Runs.{after, built, gathered, joined, joining, joins, leaving, left, opened, reached, waiting}
 use Rattle.book.specs.Yards.{Board, Joins, Sends}
-use Rattle.book.specs.Runs.{Carries, Follows, Obeyed, Obeys, accepted, after, built, decided, gathered, joined, joining, joins, leaving, left, placed, reached, sent, turn, waiting}
 use Rattle.book.proofs.Leaving.{leave-is}
 use Rattle.book.proofs.Moving.{put-last, removed-absent}
 use Rattle.book.proofs.Places.{at-front, below-or-past}
@@ -60,7 +63,7 @@ pub as-history : (start : Board) (h k : List Turn) (v : Board) → h ≡ k → F
 as-history start h k v e follows = subst (λ (past : List Turn). Follows start past v) e follows
 
 -- the empty history leads from two empty orders to themselves
-pub starts : (start : Board) → start .book .numbers .order ≡ [] → start .yard .order ≡ [] → Follows start [] start
+starts : (start : Board) → start .book .numbers .order ≡ [] → start .yard .order ≡ [] → Follows start [] start
 starts start none empty = record {
   book-built = refl;
   yard-waits = sym empty;
@@ -69,7 +72,11 @@ starts start none empty = record {
   obeyed = λ i t at. absurd (omega (arith, at .0));
 }
 
-joins-refused : (call : Call) → joins call false ≡ []
+pub begins-at : (start v : Board) → v ≡ start → start .book .numbers .order ≡ [] → start .yard .order ≡ [] → Follows start [] v
+begins-at start v e none empty = subst (λ (u : Board). Follows start [] u) (sym e) (starts start none empty)
+
+-- a refused call gives no train
+pub joins-refused : (call : Call) → joins call false ≡ []
 joins-refused (Add n rule place draw) = refl
 joins-refused (Drop n) = refl
 joins-refused (Move n place draw) = refl
@@ -115,21 +122,21 @@ module _ (start : Board) (h : List Turn) (v : Board) (follows : Follows start h 
     refused call f obeys book yard =
         follow (turn call (Refused f)) obeys book (rest-stays _ yard) (ap (λ (ts : List TrainTag). v .yard .order ++ ts) (joins-refused call) ∙ stays yard) (still-apart book)
 
-    follow-add : (n : ℕ) (rule : Rule) (place draw : ℕ) (r : Result ℕ BookFault) → Adds (v .book) n rule place r (w .book) → w .yard ≡ v .yard
+    follow-add : (n : ℕ) (rule : Rule) (place draw : ℕ) (r : Result ℕ BookFault) → Adds n rule place r (v .book) (w .book) → w .yard ≡ v .yard
         → Follows start (h ++ turn (Add n rule place draw) (placed r) ∷ []) w
     follow-add n rule place draw (Ok p) (answer, book) yard =
         follow (turn (Add n rule place draw) (Placed p)) (Ok p, refl, answer) book (rest-stays _ yard) (stays yard)
         (subst (λ (p : Pages). Distinct (p .numbers .order)) (sym book) (apart-inserted _ place (key n) (answer .1 .1) (answer .1 .0) (follows .apart)))
     follow-add n rule place draw (Err f) (answer, book) yard = refused (Add n rule place draw) f (Err f, refl, answer) book yard
 
-    follow-drop : (n : ℕ) (r : Result ℕ BookFault) → Drops (v .book) n r (w .book) → w .yard ≡ v .yard → Follows start (h ++ turn (Drop n) (placed r) ∷ []) w
+    follow-drop : (n : ℕ) (r : Result ℕ BookFault) → Drops n r (v .book) (w .book) → w .yard ≡ v .yard → Follows start (h ++ turn (Drop n) (placed r) ∷ []) w
     follow-drop n (Ok p) (answer, book) yard =
         follow (turn (Drop n) (Placed p)) (Ok p, refl, answer)
         (book ∙ ap (λ (xs : List RuleNumber). rewritten (reordered (v .book) xs) n None) (sym (leave-is _ p n (follows .apart) (answer .1)))) (rest-stays _ yard) (stays yard)
         (subst (λ (p : Pages). Distinct (p .numbers .order)) (sym book) (apart-removed _ p (answer .1 .0) (follows .apart)))
     follow-drop n (Err f) (answer, book) yard = refused (Drop n) f (Err f, refl, answer) book yard
 
-    follow-move : (n place draw : ℕ) (r : Result ℕ BookFault) → Moves (v .book) n place r (w .book) → w .yard ≡ v .yard
+    follow-move : (n place draw : ℕ) (r : Result ℕ BookFault) → Moves n place r (v .book) (w .book) → w .yard ≡ v .yard
         → Follows start (h ++ turn (Move n place draw) (placed r) ∷ []) w
     follow-move n place draw (Ok p) (answer, (i, at, book)) yard =
         let len = length-removed (v .book .numbers .order) i (at .0) in
@@ -139,38 +146,36 @@ module _ (start : Board) (h : List Turn) (v : Board) (follows : Follows start h 
         (apart-inserted _ place (key n) (omega (arith, answer .2)) (removed-absent _ i (key n) (follows .apart) at) (apart-removed _ i (at .0) (follows .apart))))
     follow-move n place draw (Err f) (answer, book) yard = refused (Move n place draw) f (Err f, refl, answer) book yard
 
-    follow-join : (tag : TrainTag) (draw : ℕ) (r : Result ℕ BookFault) → Joins (v .yard) tag r (w .yard) → w .book ≡ v .book
+    follow-join : (tag : TrainTag) (draw : ℕ) (r : Result ℕ BookFault) → Joins tag r (v .yard) (w .yard) → w .book ≡ v .book
         → Follows start (h ++ turn (Join tag draw) (placed r) ∷ []) w
     follow-join tag draw (Ok p) (answer, yard) book =
         follow (turn (Join tag draw) (Placed p)) (Ok p, refl, answer) book (rest-stays _ yard)
         (sym (ap (λ (m : Meaning TrainTag). m .order) yard ∙ put-last (v .yard .order) tag)) (still-apart book)
     follow-join tag draw (Err f) (answer, yard) book = refused (Join tag draw) f (Err f, refl, answer) book yard
 
-    follow-send : (turnout : ℕ) (r : Result (Option (TrainTag × ℕ × ℕ)) BookFault) → Sends v turnout r w → Follows start (h ++ turn (Send turnout) (sent r) ∷ []) w
+    follow-send : (turnout : ℕ) (r : Result (Option (TrainTag × ℕ × ℕ)) BookFault) → Sends turnout r v w → Follows start (h ++ turn (Send turnout) (sent r) ∷ []) w
     follow-send turnout (Ok (Some d)) (answer, book, yard) =
         follow (turn (Send turnout) (Sent (Some d))) (Ok (Some d), refl, answer) book (rest-stays _ yard)
-        (append-nil (v .yard .order) ∙ at-front (v .yard .order) (d .0) (answer .2) ∙ ap (λ (m : Meaning TrainTag). d .0 ∷ m .order) (sym yard)) (still-apart book)
+        (append-nil (v .yard .order) ∙ at-front (v .yard .order) (d .0) (answer .1 .0) ∙ ap (λ (m : Meaning TrainTag). d .0 ∷ m .order) (sym yard)) (still-apart book)
     follow-send turnout (Ok None) (answer, book, yard) =
         follow (turn (Send turnout) (Sent None)) (Ok None, refl, answer) book (rest-stays _ yard) (stays yard) (still-apart book)
     follow-send turnout (Err f) (answer, book, yard) = refused (Send turnout) f (Err f, refl, answer) book yard
 
-    follow-decide : (turnout class : ℕ) (r : Result (Option (ℕ × ℕ)) BookFault) → Answers (v .book) turnout class r → w ≡ v
+    follow-decide : (turnout class : ℕ) (r : Result (Option (ℕ × ℕ)) BookFault) → Answers (approach turnout class) r (v .book) (w .book) → w .yard ≡ v .yard
         → Follows start (h ++ turn (Decide turnout class) (decided r) ∷ []) w
-    follow-decide turnout class (Ok d) answer same =
-        follow (turn (Decide turnout class) (Decided d)) (Ok d, refl, answer) (ap (λ (u : Board). u .book) same) (rest-stays _ (ap (λ (u : Board). u .yard) same))
-        (stays (ap (λ (u : Board). u .yard) same)) (still-apart (ap (λ (u : Board). u .book) same))
-    follow-decide turnout class (Err f) answer same =
-        refused (Decide turnout class) f (Err f, refl, answer) (ap (λ (u : Board). u .book) same) (ap (λ (u : Board). u .yard) same)
+    follow-decide turnout class (Ok d) (answer, book) yard =
+        follow (turn (Decide turnout class) (Decided d)) (Ok d, refl, answer) book (rest-stays _ yard) (stays yard) (still-apart book)
+    follow-decide turnout class (Err f) (answer, book) yard = refused (Decide turnout class) f (Err f, refl, answer) book yard
 
     named : (call : Call) (a b : Answer) → a ≡ b → Follows start (h ++ turn call b ∷ []) w → Follows start (h ++ turn call a ∷ []) w
     named call a b e f = subst (λ (x : Answer). Follows start (h ++ turn call x ∷ []) w) (sym e) f
 
     -- whatever the history that led here, it goes on lawfully
-    pub follow-turn : (call : Call) (a : Answer) → Carries v call a w → Follows start (h ++ turn call a ∷ []) w
+    pub follow-turn : (call : Call) (a : Answer) → Carries call a v w → Follows start (h ++ turn call a ∷ []) w
     unfolding Carries
     follow-turn (Add n rule place draw) a (r, e, adds, yard) = named (Add n rule place draw) a (placed r) e (follow-add n rule place draw r adds yard)
     follow-turn (Drop n) a (r, e, drops, yard) = named (Drop n) a (placed r) e (follow-drop n r drops yard)
     follow-turn (Move n place draw) a (r, e, moves, yard) = named (Move n place draw) a (placed r) e (follow-move n place draw r moves yard)
     follow-turn (Join tag draw) a (r, e, joins, book) = named (Join tag draw) a (placed r) e (follow-join tag draw r joins book)
     follow-turn (Send turnout) a (r, e, sends) = named (Send turnout) a (sent r) e (follow-send turnout r sends)
-    follow-turn (Decide turnout class) a (r, e, answers, same) = named (Decide turnout class) a (decided r) e (follow-decide turnout class r answers same)
+    follow-turn (Decide turnout class) a (r, e, answers, yard) = named (Decide turnout class) a (decided r) e (follow-decide turnout class r answers yard)

@@ -11,7 +11,7 @@ use lib.ListN.{length, getD, take, drop}
 use Rattle.std.specs.Holes.{removed}
 use Rattle.order.specs.Order.{At, Absent, Distinct}
 use Rattle.order.specs.declared.keys.RuleNumber.{RuleNumber}
-use Rattle.book.specs.Rules.{leave}
+use Rattle.book.specs.Runs.{leave}
 
 numbered : (k : RuleNumber) (n : ℕ) → k .value ≡ n → k ≡ record { value = n }
 numbered k n e = ap {B = RuleNumber} (λ (v : ℕ). record { value = v }) e

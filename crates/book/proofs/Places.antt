@@ -1,23 +1,23 @@
--- What stands at a place, and which places below one more are passed.
+-- What stands at a place, which places below one more are passed, and what a table of records says.
 use Prim.Native.Nat.{ℕ, _+_, _<_, _≤_}
 use mathlib.Core.Path.{_≡_, refl, sym, ap, subst, _∙_, fun-ext}
-use mathlib.Core.Bool.{Bool, true, false}
+use mathlib.Core.Bool.{Bool, true, false, cond}
 use mathlib.Core.List.{List, [], _∷_}
 use mathlib.Core.Logic.{_⊎_, inl, inr, ⊎-elim}
 use native.Mathlib.Omega.{arith}
-use lib.ListN.{length, getD, drop, replicate}
+use borrow.Author.Tests.{eq-eqb, ne-eqb}
+use lib.Dec.{eqb}
+use lib.ListN.{length, getD, drop, replicate, set}
 use Rattle.std.proofs.shelf.Lists.{getD-set-same, getD-set-other, getD-default, getD-past, getD-replicate, length-replicate}
+use Rattle.std.proofs.shelf.Tests.{cases-eq}
 use Rattle.std.specs.declared.option.Option.{Option}
 use Rattle.std.specs.declared.option.Option.the-variants.{Some, None}
 use Rattle.order.specs.Order.{At, Meaning}
-use Rattle.book.specs.declared.rule.Rule.{Rule}
 use Rattle.order.specs.declared.keys.RuleNumber.{RuleNumber}
-use Rattle.book.specs.Rules.{Matches, NoneBelow, Covers, recorded, with-rule, Pages}
-use borrow.Author.Tests.{eq-eqb, ne-eqb}
-use mathlib.Core.Bool.{cond}
-use Rattle.std.proofs.shelf.Tests.{cases-eq}
-use lib.ListN.{set}
-use lib.Dec.{eqb}
+use Rattle.book.specs.declared.approach.Approach.{Approach}
+use Rattle.book.specs.declared.rule.Rule.{Rule}
+use Rattle.book.specs.Pages.{Matches, NoneBelow, Pages, recorded, with-rule}
+use Rattle.book.specs.Rules.{Covers}
 
 -- one key stands at a place
 pub at-same : {A : Type 0} (xs : List A) (i : ℕ) (x y : A) → At xs i x → At xs i y → x ≡ y
@@ -30,25 +30,25 @@ pub below-or-past : (i p : ℕ) → (i < p) ⊎ (p ≤ i)
 below-or-past i p = grind arith
 
 -- the place p is passed when the key there does not match
-pub none-more : (xs : List RuleNumber) (ruled : ℕ → Option Rule) (t c p : ℕ) (n : RuleNumber)
-    → NoneBelow xs ruled t c p → At xs p n → (Matches ruled t c (n .value) → ⊥) → NoneBelow xs ruled t c (p + 1)
-none-more xs ruled t c p n below here unmatched i k lt at m =
+pub none-more : (v : Pages) (a : Approach) (p : ℕ) (n : RuleNumber)
+    → NoneBelow v a p → At (v .numbers .order) p n → (Matches v a (n .value) → ⊥) → NoneBelow v a (p + 1)
+none-more v a p n below here unmatched i k lt at m =
     ⊎-elim (λ l. below i k l at m)
-    (λ e. let q = at-same xs p k n (subst (λ (j : ℕ). At xs j k) e at) here in
-    unmatched (subst (λ (x : RuleNumber). Matches ruled t c (x .value)) q m))
+    (λ e. let q = at-same (v .numbers .order) p k n (subst (λ (j : ℕ). At (v .numbers .order) j k) e at) here in
+    unmatched (subst (λ (x : RuleNumber). Matches v a (x .value)) q m))
     (below-or-at i p lt)
 
 -- a number does not match when its rule does not cover, or when it has none
-pub unmatched-rule : (ruled : ℕ → Option Rule) (t c n : ℕ) (rule : Rule) (b : Bool)
-    → ruled n ≡ Some rule → (Covers rule t c → b ≡ true) → b ≡ false → Matches ruled t c n → ⊥
-unmatched-rule ruled t c n rule b has covers left (other, is, m) =
+pub unmatched-rule : (v : Pages) (a : Approach) (n : ℕ) (rule : Rule) (b : Bool)
+    → v .rules n ≡ Some rule → (Covers rule a → b ≡ true) → b ≡ false → Matches v a n → ⊥
+unmatched-rule v a n rule b has covers left (other, is, m) =
     let e : other ≡ rule = cc in
-    let m' = subst (λ (x : Rule). Covers x t c) e m in
+    let m' = subst (λ (x : Rule). Covers x a) e m in
     let y = covers m' in
     let z : _≡_ {A = ℕ} 0 1 = cc in omega arith
 
-pub unmatched-none : (ruled : ℕ → Option Rule) (t c n : ℕ) → ruled n ≡ None → Matches ruled t c n → ⊥
-unmatched-none ruled t c n has (other, is, m) = let z : _≡_ {A = ℕ} 0 1 = cc in omega arith
+pub unmatched-none : (v : Pages) (a : Approach) (n : ℕ) → v .rules n ≡ None → Matches v a n → ⊥
+unmatched-none v a n has (other, is, m) = let z : _≡_ {A = ℕ} 0 1 = cc in omega arith
 
 -- a table of records that were never written, and one with a record written anew
 pub none-recorded : (size : ℕ) → recorded (replicate size None) ≡ (λ (_ : ℕ). None)

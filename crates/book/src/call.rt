@@ -1,3 +1,4 @@
+// The calls on a panel and their answers, as values.
 use crate::fault::BookFault;
 use crate::rule::Rule;
 use order::keys::TrainTag;

@@ -1,3 +1,4 @@
+// What a book or a panel turns down, each fault under its number and its word.
 ghost use mathlib.Core.Path.{_≡_};
 ghost use Rattle.book.specs.Faults.{faultNumber, faultWord};
 ghost use Rattle.book.specs.declared.fault.BookFault.the-variants.{Rules, Yard};
@@ -6,7 +7,7 @@ use order::fault::SetFaultDebug;
 use order::fault::SetFaultEq;
 use order::fault::SetFaultPartialEq;
 
-// What a book or a panel turns down; a set's fault is carried up with its set's word.
+// A set's fault is carried up with its number unchanged, under the word of its set.
 #[derive(Clone, Copy, Debug, PartialEq, Eq)]
 pub enum BookFault {
     BadRule,

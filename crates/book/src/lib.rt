@@ -1,3 +1,5 @@
+// The rule book and the panel, over any ordered sets: the order alone sets the route.
+pub mod approach;
 pub mod book;
 pub mod call;
 pub mod fault;

@@ -7,7 +7,8 @@ use lib.ListN.{length}
 use Rattle.std.specs.declared.option.Option.the-variants.{Some, None}
 use Rattle.order.specs.Order.{Meaning, At}
 use Rattle.order.specs.declared.keys.RuleNumber.{RuleNumber}
-use Rattle.book.specs.Rules.{recorded}
+use Rattle.book.specs.Books.{pages}
+use Rattle.book.specs.Pages.{recorded}
 use Rattle.book.proofs.Places.{none-more, same-pages, unmatched-rule, unmatched-none}
 use Rattle.book.proofs.book.Book.first_match.Needs as need
 use Rattle.book.proofs.book.Book.first_match.Needs.{in-Some·in-Some-rule-of·else-matches, in-Some·in-rest-rule-of, in-rest}
@@ -23,7 +24,7 @@ returns-then-matches g c =
       decides = λ h.
           let past = inv .2 h in
           let here = subst (λ (v : Meaning RuleNumber). At (v .order) (c .loop-place .place) (c .in-Some .number)) (past .1) (c .in-Some .ensures tt .gives (past .0) .0) in
-          (c .loop-place .place, c .in-Some .number, c .in-Some-rule-of .rule, here, refl, has, c .if-matches .ensures tt .yes refl, sym (c .route .ensures), past .2);
+          (c .loop-place .place, c .in-Some-rule-of .rule, here, has, c .if-matches .ensures tt .yes refl, sym (c .route .ensures), past .2);
       same = λ h. same-pages (c .in-Some .ensures tt .gives (inv .2 h .0) .1 ∙ inv .2 h .1) (inv .1);
       sound = λ h. c .key-of .ensures .sound (inv .2 h .0);
       kept = cc;
@@ -34,7 +35,7 @@ loop-place-again g c =
     let inv = c .loop-place .inv in
     let p = c .loop-place .place in
     let v = g .S·OrderedSet .meaning (c .args .self .now .set) in
-    let ruled = recorded (c .args .self .now .rules) in
+    let now = pages (g .S·OrderedSet) (c .args .self .now) in
     let here : (n : RuleNumber) → g .S·OrderedSet .meaning (c .loop-place .self .set) ≡ v → At (g .S·OrderedSet .meaning (c .loop-place .self .set) .order) p n → At (v .order) p n =
     λ n same. subst (λ (u : Meaning RuleNumber). At (u .order) p n) same in (
       cc,
@@ -46,13 +47,13 @@ loop-place-again g c =
             c .key-of .ensures .gives (past .0) .1 ∙ past .1,
             elim (c .match-key-of .came) [
               | in-Some·in-Some-rule-of·else-matches w ↦
-                  let has : ruled (w .in-Some .number .value) ≡ Some (w .in-Some-rule-of .rule) = cc in
-                  none-more (v .order) ruled _ _ p (w .in-Some .number) (past .2) (here _ (past .1) (w .in-Some .ensures tt .gives (past .0) .0))
-                  (unmatched-rule ruled _ _ _ _ _ has (w .matches .ensures .no) (w .if-matches .left))
+                  let has : now .rules (w .in-Some .number .value) ≡ Some (w .in-Some-rule-of .rule) = cc in
+                  none-more now _ p (w .in-Some .number) (past .2) (here _ (past .1) (w .in-Some .ensures tt .gives (past .0) .0))
+                  (unmatched-rule now _ _ _ _ has (w .matches .ensures .no) (w .if-matches .left))
               | in-Some·in-rest-rule-of w ↦
-                  let has : ruled (w .in-Some .number .value) ≡ None = cc in
-                  none-more (v .order) ruled _ _ p (w .in-Some .number) (past .2) (here _ (past .1) (w .in-Some .ensures tt .gives (past .0) .0))
-                  (unmatched-none ruled _ _ _ has)
+                  let has : now .rules (w .in-Some .number .value) ≡ None = cc in
+                  none-more now _ p (w .in-Some .number) (past .2) (here _ (past .1) (w .in-Some .ensures tt .gives (past .0) .0))
+                  (unmatched-none now _ _ has)
               | in-rest w ↦ absurd (omega (arith, w .in-rest .ensures tt .gives (past .0) .0, c .length-place-end .ensures .counts h))
             ],
           ),

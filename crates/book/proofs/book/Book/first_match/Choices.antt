@@ -1,5 +1,6 @@
 use mathlib.Core.Path.{_≡_}
-use Rattle.book.specs.Rules.{NoneBelow, recorded}
+use Rattle.book.specs.Books.{pages}
+use Rattle.book.specs.Pages.{NoneBelow}
 use Rattle.book.proofs.book.Book.first_match.Given as given
 
 abbrev pub Inv-loop-place : given.InvT-loop-place
@@ -9,4 +10,4 @@ Inv-loop-place g l =
     × (g .S·OrderedSet .sound (l .entry .self .set)
     → g .S·OrderedSet .sound (l .self .set)
     × (g .S·OrderedSet .meaning (l .self .set) ≡ g .S·OrderedSet .meaning (l .entry .self .set))
-    × NoneBelow (g .S·OrderedSet .meaning (l .entry .self .set) .order) (recorded (l .entry .self .rules)) (l .turnout) (l .class) (l .place))
+    × NoneBelow (pages (g .S·OrderedSet) (l .entry .self)) (l .asked) (l .place))

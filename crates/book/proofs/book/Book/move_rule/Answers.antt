@@ -6,7 +6,7 @@ use mathlib.Core.Bool.{Bool, true, not}
 use lib.ListN.{length}
 use Rattle.std.specs.Options.{isSome}
 use Rattle.std.proofs.shelf.Tests.{true≢false}
-use Rattle.book.specs.Rules.{key}
+use Rattle.book.specs.Pages.{key}
 use Rattle.book.proofs.Moving.{moved, move-within, move-accepted}
 use Rattle.book.proofs.book.Book.move_rule.Needs as need
 

@@ -1,19 +1,16 @@
 use mathlib.Core.Path.{sym, subst}
 use mathlib.Core.List.{[]}
-use Rattle.book.specs.Runs.{Follows, opened}
-use Rattle.book.specs.Yards.{Board, Sound}
-use Rattle.book.proofs.Departing.{route-law}
-use Rattle.book.proofs.Following.{starts}
+use Rattle.book.specs.Runs.{opened}
+use Rattle.book.specs.Yards.{Sound}
 use Rattle.book.proofs.panel.Panel.after.Needs as need
 
 pub returns : need.returns
 returns g c =
-    let sound : g .R·OrderedSet .sound (c .args .rules) → g .Y·OrderedSet .sound (c .args .yard) → Sound (g .R·OrderedSet .sound) (g .Y·OrderedSet .sound) (c .new-panel .result) = λ r y.
+    let sound : g .R·OrderedSet .sound (c .args .rules) → g .Y·OrderedSet .sound (c .args .yard) → Sound (g .R·OrderedSet) (g .Y·OrderedSet) (c .new-panel .result) = λ r y.
     (subst (g .R·OrderedSet .sound) (sym (c .new-panel .ensures .rules)) r, subst (g .Y·OrderedSet .sound) (sym (c .new-panel .ensures .yard)) y) in
-    let start = opened (g .R·OrderedSet .meaning (c .args .rules)) (g .Y·OrderedSet .meaning (c .args .yard)) in
     record {
       calls = c .run .ensures .calls;
       sound = λ r y. c .run .ensures .sound (sound r y);
-      law = λ r y none empty. route-law start _ _ (c .run .ensures .law (sound r y) start []
-          (subst (λ (v : Board). Follows start [] v) (sym (c .new-panel .ensures .means)) (starts start none empty)));
+      law = λ r y none empty.
+          c .run .ensures .law (sound r y) (opened (g .R·OrderedSet .meaning (c .args .rules)) (g .Y·OrderedSet .meaning (c .args .yard))) [] (c .new-panel .ensures .begins none empty) .1;
     }

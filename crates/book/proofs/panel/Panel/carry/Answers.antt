@@ -1,39 +1,38 @@
 use mathlib.Core.Path.{_≡_, refl, sym, ap, subst}
 use Rattle.book.specs.declared.book.Book.{Book}
-use Rattle.book.specs.Rules.{pages}
-use Rattle.book.specs.Runs.{Carries}
-use Rattle.book.specs.Yards.{board}
+use Rattle.book.specs.Books.{pages}
+use Rattle.book.specs.Calls.{Carries}
 use Rattle.book.proofs.Carrying.{as-call, refused-placed, refused-sent}
 use Rattle.book.proofs.panel.Panel.carry.Needs as need
 
 pub returns-in-Add : need.returns-in-Add
 unfolding Carries
 returns-in-Add g c = record {
-  answers = λ h. as-call _ _ (c .args .call) _ _ (c .in-Add .is) (c .add .result, c .placed-answer .ensures, c .add .ensures .adds (h .0), refl);
-  sound = λ h. (c .add .ensures .sound (h .0), h .1);
-  kept = λ h turned. let e = c .add .ensures .kept (refused-placed _ _ (c .placed-answer .ensures) turned) in cc;
+  answers = λ h. as-call _ _ (c .args .call) _ _ (c .in-Add .is) (c .add .result, c .placed-answer .ensures, c .add .ensures .adds (h .0), ap (g .Y·OrderedSet .meaning) (c .add .ensures .yard));
+  sound = λ h. (c .add .ensures .sound (h .0), subst (g .Y·OrderedSet .sound) (sym (c .add .ensures .yard)) (h .1));
+  kept = λ h turned. let e = c .add .ensures .kept (refused-placed _ _ (c .placed-answer .ensures) turned) in let f = c .add .ensures .yard in cc;
 }
 
 pub returns-in-Drop : need.returns-in-Drop
 unfolding Carries
 returns-in-Drop g c = record {
-  answers = λ h. as-call _ _ (c .args .call) _ _ (c .in-Drop .is) (c .drop-rule .result, c .placed-answer-in-Drop .ensures, c .drop-rule .ensures .drops (h .0), refl);
-  sound = λ h. (c .drop-rule .ensures .sound (h .0), h .1);
-  kept = λ h turned. let e = c .drop-rule .ensures .kept (refused-placed _ _ (c .placed-answer-in-Drop .ensures) turned) in cc;
+  answers = λ h. as-call _ _ (c .args .call) _ _ (c .in-Drop .is) (c .drop-rule .result, c .placed-answer-in-Drop .ensures, c .drop-rule .ensures .drops (h .0), ap (g .Y·OrderedSet .meaning) (c .drop-rule .ensures .yard));
+  sound = λ h. (c .drop-rule .ensures .sound (h .0), subst (g .Y·OrderedSet .sound) (sym (c .drop-rule .ensures .yard)) (h .1));
+  kept = λ h turned. let e = c .drop-rule .ensures .kept (refused-placed _ _ (c .placed-answer-in-Drop .ensures) turned) in let f = c .drop-rule .ensures .yard in cc;
 }
 
 pub returns-in-Move : need.returns-in-Move
 unfolding Carries
 returns-in-Move g c = record {
-  answers = λ h. as-call _ _ (c .args .call) _ _ (c .in-Move .is) (c .move-rule .result, c .placed-answer-in-Move .ensures, c .move-rule .ensures .moves (h .0), refl);
-  sound = λ h. (c .move-rule .ensures .sound (h .0), h .1);
-  kept = λ h turned. let e = c .move-rule .ensures .kept (h .0) (refused-placed _ _ (c .placed-answer-in-Move .ensures) turned) in cc;
+  answers = λ h. as-call _ _ (c .args .call) _ _ (c .in-Move .is) (c .move-rule .result, c .placed-answer-in-Move .ensures, c .move-rule .ensures .moves (h .0), ap (g .Y·OrderedSet .meaning) (c .move-rule .ensures .yard));
+  sound = λ h. (c .move-rule .ensures .sound (h .0), subst (g .Y·OrderedSet .sound) (sym (c .move-rule .ensures .yard)) (h .1));
+  kept = λ h turned. let e = c .move-rule .ensures .kept (h .0) (refused-placed _ _ (c .placed-answer-in-Move .ensures) turned) in let f = c .move-rule .ensures .yard in cc;
 }
 
 pub returns-in-Join : need.returns-in-Join
 unfolding Carries
 returns-in-Join g c = record {
-  answers = λ h. as-call _ _ (c .args .call) _ _ (c .in-Join .is) (c .join .result, c .placed-answer-in-Join .ensures, c .join .ensures .joins (h .1), ap (pages (g .R·OrderedSet .meaning)) (c .join .ensures .book));
+  answers = λ h. as-call _ _ (c .args .call) _ _ (c .in-Join .is) (c .join .result, c .placed-answer-in-Join .ensures, c .join .ensures .joins (h .1), ap (pages (g .R·OrderedSet)) (c .join .ensures .book));
   sound = λ h. (subst (g .R·OrderedSet .sound) (ap (λ (b : Book (g .R .Denot)). b .set) (sym (c .join .ensures .book))) (h .0), c .join .ensures .sound (h .1));
   kept = λ h turned. let e = c .join .ensures .kept (refused-placed _ _ (c .placed-answer-in-Join .ensures) turned) in let f = c .join .ensures .book in cc;
 }
@@ -49,7 +48,7 @@ returns-in-Send g c = record {
 pub returns-in-Decide : need.returns-in-Decide
 unfolding Carries
 returns-in-Decide g c = record {
-  answers = λ h. as-call _ _ (c .args .call) _ _ (c .in-Decide .is) (c .decide .result, c .decided-answer .ensures, c .decide .ensures .decides (h .0), let e = c .decide .ensures .same (h .0) in cc);
-  sound = λ h. (c .decide .ensures .sound (h .0), h .1);
-  kept = λ h turned. let e = c .decide .ensures .kept in cc;
+  answers = λ h. as-call _ _ (c .args .call) _ _ (c .in-Decide .is) (c .decide .result, c .decided-answer .ensures, c .decide .ensures .decides (h .0), ap (g .Y·OrderedSet .meaning) (c .decide .ensures .yard));
+  sound = λ h. (c .decide .ensures .sound (h .0), subst (g .Y·OrderedSet .sound) (sym (c .decide .ensures .yard)) (h .1));
+  kept = λ h turned. let e = c .decide .ensures .kept in let f = c .decide .ensures .yard in cc;
 }

@@ -6,7 +6,8 @@ use lib.ListN.{length, getD, take, set}
 use Rattle.std.proofs.shelf.Lists.{take-all, take-more-set}
 use Rattle.book.specs.declared.call.Call.{Call}
 use Rattle.book.specs.declared.call.Turn.{Turn}
-use Rattle.book.specs.Runs.{called, turn}
+use Rattle.book.specs.Calls.{called, turn}
+use Rattle.book.proofs.Departing.{route-law}
 use Rattle.book.proofs.Following.{as-history}
 use Rattle.book.proofs.panel.Panel.run.Needs as need
 
@@ -30,7 +31,7 @@ loop-i-again g c =
         λ start h follows.
             as-history start ((h ++ take i script) ++ now ∷ []) (h ++ take (i + 1) (set script i now)) _
             (append-assoc h (take i script) (now ∷ []) ∙ ap (λ (ts : List Turn). h ++ ts) (sym (take-more-set script i now (omega arith))))
-            (c .step .ensures .law (past .0) start (h ++ take i script) (past .1 start h follows)),
+            (c .step .ensures .law (past .0) start (h ++ take i script) (past .1 start h follows) .0),
       ),
     )
 
@@ -39,6 +40,7 @@ returns g c = record {
   calls = c .loop-i .inv .0;
   sound = λ s. c .loop-i .inv .1 s .0;
   law = λ s start h follows.
-      as-history start (h ++ take (c .loop-i .i) (c .loop-i .script)) (h ++ c .loop-i .script) _
-      (ap (λ (ts : List Turn). h ++ ts) (take-all (c .loop-i .i) (c .loop-i .script) (omega arith))) (c .loop-i .inv .1 s .1 start h follows);
+      let on = as-history start (h ++ take (c .loop-i .i) (c .loop-i .script)) (h ++ c .loop-i .script) _
+      (ap (λ (ts : List Turn). h ++ ts) (take-all (c .loop-i .i) (c .loop-i .script) (omega arith))) (c .loop-i .inv .1 s .1 start h follows) in
+      (on, route-law start _ _ on);
 }

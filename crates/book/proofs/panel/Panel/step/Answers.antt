@@ -1,4 +1,4 @@
-use Rattle.book.proofs.Following.{follow-turn}
+use Rattle.book.proofs.Departing.{go-on}
 use Rattle.book.proofs.panel.Panel.step.Needs as need
 
 pub returns : need.returns
@@ -6,5 +6,5 @@ returns g c = record {
   answers = c .carry .ensures .answers;
   sound = c .carry .ensures .sound;
   kept = c .carry .ensures .kept;
-  law = λ sound start h follows. follow-turn start h _ follows _ (c .args .call) (c .carry .result) (c .carry .ensures .answers sound);
+  law = λ sound start h follows. go-on start h _ follows _ (c .args .call) (c .carry .result) (c .carry .ensures .answers sound);
 }

@@ -13,7 +13,7 @@ returns-then-class-lt65 c = record {
   no = λ h. elim (c .then-class-lt65 .came) [
     | then-class-lt65·by·then-class-lt65 w ↦ absurd (omega arith)
     | then-class-lt65·by·else-class-lt65·then-class-gt90 w ↦
-        sym (getD-past (c .args .self .now .classes) (c .args .class - 65) false (omega arith)) ∙ h .3
+        sym (getD-past (c .args .self .now .classes) (c .args .approach .class - 65) false (omega arith)) ∙ h .3
     | then-class-lt65·by·else-class-lt65·else-class-gt90·then-turnout-self w ↦ absurd (omega arith)
     | then-class-lt65·by·else-class-lt65·else-class-gt90·else-turnout-self·then-turnout-self-2 w ↦ absurd (omega arith)
   ];
