@@ -13,18 +13,18 @@ use Rattle.order.specs.Order.{At, Absent, Distinct}
 use Rattle.order.specs.declared.keys.RuleNumber.{RuleNumber}
 use Rattle.book.specs.Runs.{leave}
 
-numbered : (k : RuleNumber) (n : ℕ) → k .value ≡ n → k ≡ record { value = n }
+pub numbered : (k : RuleNumber) (n : ℕ) → k .value ≡ n → k ≡ record { value = n }
 numbered k n e = ap {B = RuleNumber} (λ (v : ℕ). record { value = v }) e
 
 -- a place further on in a longer list
-at-later : {A : Type 0} (y : A) (xs : List A) (i : ℕ) (x : A) → At xs i x → At (y ∷ xs) (suc i) x
+pub at-later : {A : Type 0} (y : A) (xs : List A) (i : ℕ) (x : A) → At xs i x → At (y ∷ xs) (suc i) x
 at-later y xs i x at = (omega arith, at .1)
 
-distinct-rest : {A : Type 0} (y : A) (xs : List A) → Distinct (y ∷ xs) → Distinct xs
+pub distinct-rest : {A : Type 0} (y : A) (xs : List A) → Distinct (y ∷ xs) → Distinct xs
 distinct-rest y xs apart i j x a b =
     let e = apart (suc i) (suc j) x (at-later y xs i x a) (at-later y xs j x b) in omega arith
 
-absent-rest : {A : Type 0} (y : A) (xs : List A) (x : A) → Absent (y ∷ xs) x → Absent xs x
+pub absent-rest : {A : Type 0} (y : A) (xs : List A) (x : A) → Absent (y ∷ xs) x → Absent xs x
 absent-rest y xs x absent i at = absent (suc i) (at-later y xs i x at)
 
 leave-absent : (xs : List RuleNumber) (n : ℕ) → Absent xs (record { value = n }) → leave n xs ≡ xs

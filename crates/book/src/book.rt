@@ -1,6 +1,7 @@
 // A book: rule numbers in an ordered set, and each one's rule.
 ghost use Prim.Native.Nat.{ℕ};
 ghost use mathlib.Core.Path.{_≡_};
+ghost use lib.ListN.{length};
 ghost use Rattle.std.specs.declared.option.Option.the-variants.{None};
 ghost use Rattle.book.specs.Pages.{recorded};
 use crate::rule::Rule;
@@ -11,6 +12,7 @@ use order::set::OrderedSet;
 
 pub mod change;
 pub mod decide;
+pub mod list;
 
 #[derive(Drop)]
 pub struct Book<S> {
@@ -20,7 +22,8 @@ pub struct Book<S> {
 
 // The rule recorded under a number, if it has one.
 fn rule_of(rules: &[Option<Rule>; 256], number: RuleNumber) -> Option<Rule>
-    ensures { λ r. ⌜ r ≡ recorded (now (rules .entry)) (number .value) ⌝ }
+    ensures finds { λ r. ⌜ r ≡ recorded (now (rules .entry)) (number .value) ⌝ }
+    ensures size { λ _. ⌜ length (now (rules .entry)) ≡ 256 ⌝ }
 {
     if number.value > 255 {
         return None;

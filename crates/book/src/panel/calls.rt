@@ -1,9 +1,10 @@
 // The calls of a panel: those of its book, and join and send.
+ghost use Prim.Native.Nat.{_≤_};
 ghost use mathlib.Core.Path.{_≡_};
 ghost use mathlib.Core.Bool.{false};
 ghost use Rattle.std.specs.Results.{isOk};
 ghost use Rattle.book.specs.Pages.{approach};
-ghost use Rattle.book.specs.Books.{Across, Adds, Answers, Drops, Kept, Lasts, Moves};
+ghost use Rattle.book.specs.Books.{Across, Adds, Answers, Drops, Kept, Lasts, Lists, Moves};
 ghost use Rattle.book.specs.Yards.{Joins, Over, OverSet, Pushes, Sends, Sound, frame};
 use crate::approach::Approach;
 use crate::fault::BookFault;
@@ -74,6 +75,17 @@ impl<R: OrderedSet<RuleNumber>, Y: OrderedSet<TrainTag>> Panel<R, Y> {
         ensures yard { λ _. ⌜ now (self .exit) .yard ≡ now (self .entry) .yard ⌝ }
     {
         self.book.decide(turnout, class)
+    }
+
+    // Writes the numbers that have a rule, in order, to the first cells; answers how many.
+    pub fn listed(&mut self, numbers: &mut [u16; 256]) -> usize
+        ensures lists { λ r. ⌜ Across R·OrderedSet (now (self .entry) .book) (now (self .exit) .book) (Lists (now (numbers .entry)) r (now (numbers .exit))) ⌝ }
+        ensures within { λ r. ⌜ r ≤ 256 ⌝ }
+        ensures sound { λ _. ⌜ Lasts R·OrderedSet (now (self .entry) .book) (now (self .exit) .book) ⌝ }
+        ensures kept { λ _. ⌜ Kept R·OrderedSet (now (self .entry) .book) (now (self .exit) .book) ⌝ }
+        ensures yard { λ _. ⌜ now (self .exit) .yard ≡ now (self .entry) .yard ⌝ }
+    {
+        self.book.listed(numbers)
     }
 
     // A train takes the last place in the yard; answers the place.
