@@ -5,3 +5,4 @@ pub mod call;
 pub mod fault;
 pub mod panel;
 pub mod rule;
+pub mod worked;
