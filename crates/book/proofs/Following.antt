@@ -30,7 +30,7 @@ use Rattle.book.specs.Books.{Adds, Answers, Drops, Moves}
 use Rattle.book.specs.Calls.{Carries, Obeys, decided, placed, sent, turn}
 use Rattle.book.specs.Law.{Follows, Obeyed}
 use Rattle.book.specs.Pages.{Pages, approach, key, reordered, rewritten}
-use Rattle.book.specs.Runs.{after, built, gathered, joined, joining, joins, leaving, left, opened, reached, waiting}
+use Rattle.book.specs.Runs.{after, built, gathered, joined, joining, joins, leaving, left, reached, waiting}
 use Rattle.book.specs.Yards.{Board, Joins, Sends}
 use Rattle.book.proofs.Leaving.{leave-is}
 use Rattle.book.proofs.Moving.{put-last, removed-absent}

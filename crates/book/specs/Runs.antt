@@ -84,7 +84,3 @@ waiting start h = ordered start (drop (length (left h)) (joined h))
 
 abbrev pub reached : Board → List Turn → Board
 reached start h = record { book = built (start .book) h; yard = waiting (start .yard) h }
-
--- a panel over two sets, with no rules yet
-abbrev pub opened : Meaning RuleNumber → Meaning TrainTag → Board
-opened rules yard = record { book = record { numbers = rules; rules = λ (_ : ℕ). None }; yard = yard }

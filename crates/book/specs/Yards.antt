@@ -4,6 +4,10 @@
 --     frame r y p         the panel but for what last places remember
 --     OverSet s b c R     R holds of the meanings of the sets b and c, where b was sound
 --     Over r y p q R      R holds of the boards of the panels p and q, where p was sound
+--     Remains r y p q     soundness remains from p to q
+--     Unmoved r y p q     q is p but for what last places remember
+--     opened m n          a panel with no rules yet, over sets that mean m and n; opens r y a b, over the sets a and b
+--     Empty s a           the order of the set a is empty; Fresh s a, and it is sound
 use Prim.Native.Nat.{ℕ, _≤_}
 use mathlib.Core.Path.{_≡_}
 use mathlib.Core.List.{List, []}
@@ -45,6 +49,24 @@ OverSet s b c R = s .sound b → R (s .meaning b) (s .meaning c)
 
 abbrev pub Over : {R Y : Type 0} → Ghosts R RuleNumber → Ghosts Y TrainTag → Panel R Y → Panel R Y → (Board → Board → Type 0) → Type 0
 Over r y p q R = Sound r y p → R (board r y p) (board r y q)
+
+abbrev pub Remains : {R Y : Type 0} → Ghosts R RuleNumber → Ghosts Y TrainTag → Panel R Y → Panel R Y → Type 0
+Remains r y p q = Sound r y p → Sound r y q
+
+abbrev pub Unmoved : {R Y : Type 0} → Ghosts R RuleNumber → Ghosts Y TrainTag → Panel R Y → Panel R Y → Type 0
+Unmoved r y p q = frame r y q ≡ frame r y p
+
+abbrev pub opened : Meaning RuleNumber → Meaning TrainTag → Board
+opened rules yard = record { book = record { numbers = rules; rules = λ (_ : ℕ). None }; yard = yard }
+
+abbrev pub opens : {R Y : Type 0} → Ghosts R RuleNumber → Ghosts Y TrainTag → R → Y → Board
+opens r y rules yard = opened (r .meaning rules) (y .meaning yard)
+
+abbrev pub Empty : {S K : Type 0} → Ghosts S K → S → Type 0
+Empty s set = s .meaning set .order ≡ []
+
+abbrev pub Fresh : {S K : Type 0} → Ghosts S K → S → Type 0
+Fresh s set = s .sound set × Empty s set
 
 -- a push into the yard's set
 abbrev pub Pushes : TrainTag → Result ℕ YardFault → Meaning TrainTag → Meaning TrainTag → Type 0

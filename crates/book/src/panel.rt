@@ -2,8 +2,7 @@
 ghost use mathlib.Core.Path.{_≡_};
 ghost use mathlib.Core.List.{[]};
 ghost use Rattle.book.specs.Law.{Follows};
-ghost use Rattle.book.specs.Runs.{opened};
-ghost use Rattle.book.specs.Yards.{board};
+ghost use Rattle.book.specs.Yards.{Empty, board, opens};
 use crate::book::Book;
 use order::key::Key;
 use order::keys::RuleNumber;
@@ -26,9 +25,8 @@ impl<R: OrderedSet<RuleNumber>, Y: OrderedSet<TrainTag>> Panel<R, Y> {
     pub fn new(rules: R, yard: Y) -> Panel<R, Y>
         ensures rules { λ r. ⌜ r .book .set ≡ rules ⌝ }
         ensures yard { λ r. ⌜ r .yard ≡ yard ⌝ }
-        ensures means { λ r. ⌜ board R·OrderedSet Y·OrderedSet r ≡ opened (R·OrderedSet .meaning rules) (Y·OrderedSet .meaning yard) ⌝ }
-        ensures begins { λ r. ⌜ (R·OrderedSet .meaning rules .order ≡ [] → Y·OrderedSet .meaning yard .order ≡ []
-            → Follows (opened (R·OrderedSet .meaning rules) (Y·OrderedSet .meaning yard)) [] (board R·OrderedSet Y·OrderedSet r)) ⌝ }
+        ensures means { λ r. ⌜ board R·OrderedSet Y·OrderedSet r ≡ opens R·OrderedSet Y·OrderedSet rules yard ⌝ }
+        ensures begins { λ r. ⌜ (Empty R·OrderedSet rules → Empty Y·OrderedSet yard → Follows (opens R·OrderedSet Y·OrderedSet rules yard) [] (board R·OrderedSet Y·OrderedSet r)) ⌝ }
     {
         Panel {
             book: Book::new(rules),

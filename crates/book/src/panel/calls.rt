@@ -5,7 +5,7 @@ ghost use mathlib.Core.Bool.{false};
 ghost use Rattle.std.specs.Results.{isOk};
 ghost use Rattle.book.specs.Pages.{approach};
 ghost use Rattle.book.specs.Books.{Across, Adds, Answers, Drops, Kept, Lasts, Lists, Moves};
-ghost use Rattle.book.specs.Yards.{Joins, Over, OverSet, Pushes, Sends, Sound, frame};
+ghost use Rattle.book.specs.Yards.{Joins, Over, OverSet, Pushes, Remains, Sends, Unmoved};
 use crate::approach::Approach;
 use crate::fault::BookFault;
 use crate::fault::YardFault;
@@ -105,8 +105,8 @@ impl<R: OrderedSet<RuleNumber>, Y: OrderedSet<TrainTag>> Panel<R, Y> {
     // The front train leaves by the rule that decides for it, or stays.
     pub fn send(&mut self, turnout: u16) -> Result<Option<(TrainTag, u16, u8)>, BookFault>
         ensures sends { λ r. ⌜ Over R·OrderedSet Y·OrderedSet (now (self .entry)) (now (self .exit)) (Sends turnout r) ⌝ }
-        ensures sound { λ _. ⌜ (Sound R·OrderedSet Y·OrderedSet (now (self .entry)) → Sound R·OrderedSet Y·OrderedSet (now (self .exit))) ⌝ }
-        ensures kept { λ r. ⌜ (isOk r ≡ false → frame R·OrderedSet Y·OrderedSet (now (self .exit)) ≡ frame R·OrderedSet Y·OrderedSet (now (self .entry))) ⌝ }
+        ensures sound { λ _. ⌜ Remains R·OrderedSet Y·OrderedSet (now (self .entry)) (now (self .exit)) ⌝ }
+        ensures kept { λ r. ⌜ (isOk r ≡ false → Unmoved R·OrderedSet Y·OrderedSet (now (self .entry)) (now (self .exit))) ⌝ }
     {
         if turnout < 1 || turnout > 2000 {
             return Err(BookFault::BadTurnout);

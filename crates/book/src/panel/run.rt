@@ -4,8 +4,7 @@ ghost use mathlib.Core.List.{List, [], _∷_, _++_, map};
 ghost use mathlib.Core.Bool.{false};
 ghost use Rattle.book.specs.Calls.{Carries, accepted, called, decided, placed, sent, turn};
 ghost use Rattle.book.specs.Law.{GoesOn, RouteLaw};
-ghost use Rattle.book.specs.Runs.{opened};
-ghost use Rattle.book.specs.Yards.{Over, Sound, board, frame};
+ghost use Rattle.book.specs.Yards.{Fresh, Over, Remains, Sound, Unmoved, board, opens};
 use crate::call::Answer;
 use crate::call::Call;
 use crate::call::Turn;
@@ -49,8 +48,8 @@ fn sent_answer(result: Result<Option<(TrainTag, u16, u8)>, BookFault>) -> Answer
 impl<R: OrderedSet<RuleNumber>, Y: OrderedSet<TrainTag>> Panel<R, Y> {
     fn carry(&mut self, call: Call) -> Answer
         ensures answers { λ r. ⌜ Over R·OrderedSet Y·OrderedSet (now (self .entry)) (now (self .exit)) (Carries call r) ⌝ }
-        ensures sound { λ _. ⌜ (Sound R·OrderedSet Y·OrderedSet (now (self .entry)) → Sound R·OrderedSet Y·OrderedSet (now (self .exit))) ⌝ }
-        ensures kept { λ r. ⌜ (Sound R·OrderedSet Y·OrderedSet (now (self .entry)) → accepted r ≡ false → frame R·OrderedSet Y·OrderedSet (now (self .exit)) ≡ frame R·OrderedSet Y·OrderedSet (now (self .entry))) ⌝ }
+        ensures sound { λ _. ⌜ Remains R·OrderedSet Y·OrderedSet (now (self .entry)) (now (self .exit)) ⌝ }
+        ensures kept { λ r. ⌜ (Sound R·OrderedSet Y·OrderedSet (now (self .entry)) → accepted r ≡ false → Unmoved R·OrderedSet Y·OrderedSet (now (self .entry)) (now (self .exit))) ⌝ }
     {
         match call {
             Call::Add {
@@ -74,8 +73,8 @@ impl<R: OrderedSet<RuleNumber>, Y: OrderedSet<TrainTag>> Panel<R, Y> {
     // Carries out a call: whatever lawful history led here, it goes on lawfully.
     pub fn step(&mut self, call: Call) -> Answer
         ensures answers { λ r. ⌜ Over R·OrderedSet Y·OrderedSet (now (self .entry)) (now (self .exit)) (Carries call r) ⌝ }
-        ensures sound { λ _. ⌜ (Sound R·OrderedSet Y·OrderedSet (now (self .entry)) → Sound R·OrderedSet Y·OrderedSet (now (self .exit))) ⌝ }
-        ensures kept { λ r. ⌜ (Sound R·OrderedSet Y·OrderedSet (now (self .entry)) → accepted r ≡ false → frame R·OrderedSet Y·OrderedSet (now (self .exit)) ≡ frame R·OrderedSet Y·OrderedSet (now (self .entry))) ⌝ }
+        ensures sound { λ _. ⌜ Remains R·OrderedSet Y·OrderedSet (now (self .entry)) (now (self .exit)) ⌝ }
+        ensures kept { λ r. ⌜ (Sound R·OrderedSet Y·OrderedSet (now (self .entry)) → accepted r ≡ false → Unmoved R·OrderedSet Y·OrderedSet (now (self .entry)) (now (self .exit))) ⌝ }
         ensures law { λ r. ⌜ Over R·OrderedSet Y·OrderedSet (now (self .entry)) (now (self .exit)) (GoesOn (turn call r ∷ [])) ⌝ }
     {
         self.carry(call)
@@ -84,7 +83,7 @@ impl<R: OrderedSet<RuleNumber>, Y: OrderedSet<TrainTag>> Panel<R, Y> {
     // Carries out the calls of a script in turn, and writes each one's answer beside it.
     pub fn run(&mut self, script: &mut [Turn])
         ensures calls { λ _. ⌜ map called (now (script .exit)) ≡ map called (now (script .entry)) ⌝ }
-        ensures sound { λ _. ⌜ (Sound R·OrderedSet Y·OrderedSet (now (self .entry)) → Sound R·OrderedSet Y·OrderedSet (now (self .exit))) ⌝ }
+        ensures sound { λ _. ⌜ Remains R·OrderedSet Y·OrderedSet (now (self .entry)) (now (self .exit)) ⌝ }
         ensures law { λ _. ⌜ Over R·OrderedSet Y·OrderedSet (now (self .entry)) (now (self .exit)) (GoesOn (now (script .exit))) ⌝ }
     {
         for i in 0..script.len() {
@@ -100,8 +99,7 @@ impl<R: OrderedSet<RuleNumber>, Y: OrderedSet<TrainTag>> Panel<R, Y> {
     pub fn after(rules: R, yard: Y, script: &mut [Turn]) -> Panel<R, Y>
         ensures calls { λ _. ⌜ map called (now (script .exit)) ≡ map called (now (script .entry)) ⌝ }
         ensures sound { λ r. ⌜ (R·OrderedSet .sound rules → Y·OrderedSet .sound yard → Sound R·OrderedSet Y·OrderedSet r) ⌝ }
-        ensures law { λ r. ⌜ (R·OrderedSet .sound rules → Y·OrderedSet .sound yard → R·OrderedSet .meaning rules .order ≡ [] → Y·OrderedSet .meaning yard .order ≡ []
-            → RouteLaw (opened (R·OrderedSet .meaning rules) (Y·OrderedSet .meaning yard)) (now (script .exit)) (board R·OrderedSet Y·OrderedSet r)) ⌝ }
+        ensures law { λ r. ⌜ (Fresh R·OrderedSet rules → Fresh Y·OrderedSet yard → RouteLaw (opens R·OrderedSet Y·OrderedSet rules yard) (now (script .exit)) (board R·OrderedSet Y·OrderedSet r)) ⌝ }
     {
         let mut panel = Panel::new(rules, yard);
         panel.run(script);

@@ -1,3 +1,4 @@
+-- What a book with 9 before 4 decides.
 use Rattle.book.proofs.Working.{case-decided}
 use Rattle.book.proofs.worked.decided.Needs as need
 

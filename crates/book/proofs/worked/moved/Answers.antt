@@ -1,3 +1,4 @@
+-- Where a rule of two can be moved to.
 use mathlib.Core.Path.{_≡_, refl, ap, _∙_}
 use Rattle.book.specs.Faults.{faultNumber}
 use Rattle.book.proofs.Working.{case-moved, case-refused}

@@ -1,3 +1,4 @@
+-- An empty book with room turns neither rule down.
 use Rattle.book.proofs.Working.{both-in, four-goes-in, nine-goes-in, not-vacant}
 use Rattle.book.proofs.worked.nine_then_four.Needs as need
 

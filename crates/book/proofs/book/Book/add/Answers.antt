@@ -1,3 +1,4 @@
+-- The number went in, and its record was written.
 use borrow.Author.Needs.{needs}
 use native.Mathlib.Omega.{arith}
 use mathlib.Core.Path.{refl}

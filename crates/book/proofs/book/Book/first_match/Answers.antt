@@ -1,3 +1,4 @@
+-- Each place is passed or decides, in order.
 use borrow.Author.Needs.{needs}
 use native.Mathlib.Omega.{arith}
 use Prim.Native.Nat.{ℕ, _<_}

@@ -1,3 +1,4 @@
+-- No number at a place passed matches.
 use mathlib.Core.Path.{_≡_}
 use Rattle.book.specs.Books.{pages}
 use Rattle.book.specs.Pages.{NoneBelow}

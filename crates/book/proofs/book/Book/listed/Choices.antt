@@ -1,3 +1,4 @@
+-- The numbers of the places passed that have a rule fill the first cells.
 use Prim.Native.Nat.{_<_, _≤_}
 use mathlib.Core.Path.{_≡_}
 use mathlib.Core.List.{_++_}

@@ -1,3 +1,4 @@
+-- A number that came out always goes in again.
 use borrow.Author.Needs.{needs}
 use native.Mathlib.Omega.{arith}
 use Prim.Native.Nat.{_<_}

@@ -1,7 +1,7 @@
+-- The history of a new panel over empty sets begins with nothing.
 use mathlib.Core.Path.{sym, subst}
 use mathlib.Core.List.{[]}
-use Rattle.book.specs.Runs.{opened}
-use Rattle.book.specs.Yards.{Sound}
+use Rattle.book.specs.Yards.{Sound, opens}
 use Rattle.book.proofs.panel.Panel.after.Needs as need
 
 pub returns : need.returns
@@ -11,6 +11,6 @@ returns g c =
     record {
       calls = c .run .ensures .calls;
       sound = λ r y. c .run .ensures .sound (sound r y);
-      law = λ r y none empty.
-          c .run .ensures .law (sound r y) (opened (g .R·OrderedSet .meaning (c .args .rules)) (g .Y·OrderedSet .meaning (c .args .yard))) [] (c .new-panel .ensures .begins none empty) .1;
+      law = λ (r, none) (y, empty).
+          c .run .ensures .law (sound r y) (opens (g .R·OrderedSet) (g .Y·OrderedSet) (c .args .rules) (c .args .yard)) [] (c .new-panel .ensures .begins none empty) .1;
     }

@@ -1,3 +1,4 @@
+-- A yard with nothing at its front is empty.
 use mathlib.Core.Logic.{inr}
 use borrow.Author.Needs.{needs}
 use native.Mathlib.Omega.{arith}

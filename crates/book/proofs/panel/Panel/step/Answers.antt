@@ -1,3 +1,4 @@
+-- A call carried out makes a history one turn longer.
 use Rattle.book.proofs.Departing.{go-on}
 use Rattle.book.proofs.panel.Panel.step.Needs as need
 

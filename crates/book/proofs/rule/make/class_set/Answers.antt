@@ -1,3 +1,4 @@
+-- One more class at a time.
 use native.Mathlib.Omega.{arith}
 use mathlib.Core.Path.{refl, _∙_}
 use Rattle.std.proofs.shelf.Lists.{length-set}

@@ -1,3 +1,4 @@
+-- The set has the classes passed, and no other.
 use Prim.Native.Nat.{ℕ, _<_}
 use mathlib.Core.Path.{_≡_}
 use lib.ListN.{length}
