@@ -1,0 +1,4 @@
+pub mod Cells
+pub mod Chain
+pub mod Ring
+pub mod Report
