@@ -6,9 +6,9 @@ ghost use mathlib.Core.Bool.{true, false};
 ghost use lib.ListN.{length, set};
 ghost use denote.Ref.{now};
 ghost use Rattle.index.specs.Index.{Index, Indexed, Row, Used, spot};
+use crate::probe;
 use order::key::HashKey;
 use order::key::Key;
-use crate::probe;
 
 // The lent keys and slots, and the first free row.
 #[derive(Drop)]
