@@ -120,3 +120,12 @@ entered-last a d n m r v q e g =
     let w = take-all (order a n) n (length-order a n) in
     let k = entered a d n m n r v q e (subst (λ ys. Ring d (turned (take n (order a n)) []) (r ∷ ys)) (sym (w .1)) g) in
     (k .0, k .1 ∙ ap (λ x. x ++ r ∷ drop n (order a n)) (w .0) ∙ ap (λ x. order a n ++ r ∷ x) (w .1))
+
+-- the place after the last is the length
+pub enters-last : (a : List Row) (n i r v : ℕ) → i ≡ n → Enters a n i r v → Enters a n n r v
+enters-last a n i r v e p = subst (λ (x : ℕ). Enters a n x r v) e p
+
+pub at-last : (a : List Row) (n i r : ℕ) → i ≡ n → order a n ++ r ∷ [] ≡ take i (order a n) ++ r ∷ drop i (order a n)
+at-last a n i r e =
+    let w = take-all (order a n) i (length-order a n ∙ sym e) in
+    sym (ap (λ (x : List ℕ). x ++ r ∷ drop i (order a n)) (w .0) ∙ ap (λ (x : List ℕ). order a n ++ r ∷ x) (w .1))

@@ -105,7 +105,7 @@ impl<'a> Rows<'a> {
     }
 
     /// Gives the row `row`, which is not in the order, its level, and puts it in at a place.
-    pub fn insert_at(&mut self, place: u32, row: u16, level: u8)
+    pub(crate) fn insert_at(&mut self, place: u32, row: u16, level: u8)
         requires { ⌜ Enters (cells (now self)) (now self .len) place row level ⌝ }
         ensures order { λ _. ⌜ order (cells (now (self .exit))) (now (self .exit) .len) ≡ take place (order (cells (now (self .entry))) (now (self .entry) .len)) ++ row ∷ drop place (order (cells (now (self .entry))) (now (self .entry) .len)) ⌝ }
         ensures holds { λ _. ⌜ Holds (cells (now (self .exit))) (now (self .exit) .len) ⌝ }
@@ -118,7 +118,7 @@ impl<'a> Rows<'a> {
     }
 
     /// Gives the row `row`, which is not in the order, its level, and puts it at the end.
-    pub fn push(&mut self, row: u16, level: u8)
+    pub(crate) fn push(&mut self, row: u16, level: u8)
         requires { ⌜ Enters (cells (now self)) (now self .len) (now self .len) row level ⌝ }
         ensures order { λ _. ⌜ order (cells (now (self .exit))) (now (self .exit) .len) ≡ order (cells (now (self .entry))) (now (self .entry) .len) ++ row ∷ [] ⌝ }
         ensures holds { λ _. ⌜ Holds (cells (now (self .exit))) (now (self .exit) .len) ⌝ }
@@ -128,5 +128,20 @@ impl<'a> Rows<'a> {
         self.raise(row, level);
         self.append(row);
         self.len += 1;
+    }
+
+    /// Gives the row `row`, which is not in the order, its level, and puts it in at a place: at the end with no walk.
+    pub fn put(&mut self, place: u32, row: u16, level: u8)
+        requires { ⌜ Enters (cells (now self)) (now self .len) place row level ⌝ }
+        ensures order { λ _. ⌜ order (cells (now (self .exit))) (now (self .exit) .len) ≡ take place (order (cells (now (self .entry))) (now (self .entry) .len)) ++ row ∷ drop place (order (cells (now (self .entry))) (now (self .entry) .len)) ⌝ }
+        ensures holds { λ _. ⌜ Holds (cells (now (self .exit))) (now (self .exit) .len) ⌝ }
+        ensures levels { λ _. ⌜ levels (cells (now (self .exit))) ≡ set (set (levels (cells (now (self .entry)))) row level) 0 (max level (getD (levels (cells (now (self .entry)))) 0 0)) ⌝ }
+        ensures len { λ _. ⌜ now (self .exit) .len ≡ now (self .entry) .len + 1 ⌝ }
+    {
+        if place == self.len {
+            self.push(row, level)
+        } else {
+            self.insert_at(place, row, level)
+        }
     }
 }
