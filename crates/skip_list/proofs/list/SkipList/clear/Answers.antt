@@ -1,0 +1,23 @@
+use mathlib.Core.Path.{ap}
+use Rattle.skip_list.specs.Lent.{keysOf, picked}
+use Rattle.skip_list.proofs.Sounds.{ready-list, emptied, sound-none}
+use Rattle.skip_list.proofs.list.SkipList.clear.Needs as need
+
+pub clear-requires : need.clear-requires
+clear-requires g c κs = ready-list (c .args .self .now)
+
+pub ghost-self : need.ghost-self
+ghost-self g c =
+    let r = c .clear .ensures .ready in
+    (r .few, (r .twice, (r .sized, (∣ r .holds ∣₁, (∣ emptied (c .clear .last .self) (c .clear .ensures .used) (λ _. 0) (c .clear .ensures .chains) ∣₁, tt)))))
+
+pub returns : need.returns
+returns g c =
+    let s = c .clear .last .self in
+    let e = ap (λ rows. picked (keysOf s) rows) (c .clear .ensures .used) in
+    record {
+      empty = e;
+      room = c .clear .ensures .size;
+      told = record { order = e; highs-are = c .clear .ensures .highs; height-is = c .clear .ensures .height; fair = tt };
+      sound = sound-none (g .K·Key .identity) (g .K·HashKey .hashed) s (c .clear .ensures .used) (c .clear .ensures .chains);
+    }

@@ -1,0 +1,11 @@
+// The row list: an indexed skip list over lent rows, which is an ordered set.
+pub mod fault;
+pub mod lent;
+mod lent_links;
+mod lent_moves;
+pub mod level;
+pub mod list;
+pub mod memory;
+pub mod report;
+mod reports;
+mod set;
