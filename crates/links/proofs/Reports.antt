@@ -18,10 +18,10 @@ use Rattle.links.specs.Report.{those, total, Levels-lead, Counts-steps}
 use Rattle.links.proofs.Chains.{hit, miss, known}
 use Rattle.links.proofs.Orders.{split, length-order, length-turned, here-at, here-row}
 
-those-hit : (p : ℕ → Bool) (r : ℕ) (rs : List ℕ) → p r ≡ true → those p (r ∷ rs) ≡ r ∷ those p rs
+pub those-hit : (p : ℕ → Bool) (r : ℕ) (rs : List ℕ) → p r ≡ true → those p (r ∷ rs) ≡ r ∷ those p rs
 those-hit p r rs e = ap (λ v. cond v (r ∷ those p rs) (those p rs)) e
 
-those-miss : (p : ℕ → Bool) (r : ℕ) (rs : List ℕ) → p r ≡ false → those p (r ∷ rs) ≡ those p rs
+pub those-miss : (p : ℕ → Bool) (r : ℕ) (rs : List ℕ) → p r ≡ false → those p (r ∷ rs) ≡ those p rs
 those-miss p r rs e = ap (λ v. cond v (r ∷ those p rs) (those p rs)) e
 
 visits : (p : ℕ → Bool) (f : ℕ → Link) (us : List ℕ) (r : ℕ) → f r .row ≡ nearest p us .row → Away p f us → walk f (suc (length (those p us))) r ≡ those p us ++ 0 ∷ []
@@ -87,6 +87,11 @@ counts-steps p (u ∷ us) = elim (known (p u)) [
   | inl y ↦ subst (λ k. Steps (u ∷ us) k) (sym (hit p u us y)) (inr (refl, omega arith, omega arith))
   | inr y ↦ subst (λ k. Steps (u ∷ us) k) (sym (miss p u us y)) (step-on u us (nearest p us) (counts-steps p us))
 ]
+
+-- the link back from the end
+pub end-leads : (a : List Row) (n l : ℕ) → Holds a n → l < getD (levels a) 0 0 → at (view Back l a) 0 ≡ nearest (reach (levels a) l) (turned (order a n) [])
+unfolding Level
+end-leads a n l h lt = split a (order a n) [] [] (subst (λ x. Ring a [] x) (sym (append-nil (order a n))) (h .0)) .right l lt .1 .1
 
 -- the two links of the row at a place
 pub reported : (a : List Row) (n i l r v : ℕ) (k g : Link) → i < n → Holds a n → r ≡ getD (order a n) i 0 → v ≡ getD (levels a) r 0 → l < v →

@@ -23,7 +23,7 @@ module _ {A : Type 0} where
   one : (keys : List A) (r : ℕ) (d : A) → r < length keys → take 1 (drop r keys) ≡ getD keys r d ∷ []
   one keys r d lt = ap (λ x. take 1 x) (drop-cons keys r d lt)
 
-  some-key : (keys : List A) (r : ℕ) → r < length keys → (k : A) × (take 1 (drop r keys) ≡ k ∷ [])
+  pub some-key : (keys : List A) (r : ℕ) → r < length keys → (k : A) × (take 1 (drop r keys) ≡ k ∷ [])
   some-key [] r lt = absurd (omega arith)
   some-key (x ∷ keys) zero lt = (x, refl)
   some-key (x ∷ keys) (suc r) lt = some-key keys r (omega arith)
@@ -52,14 +52,14 @@ module _ {A : Type 0} where
   picked-append keys [] ys = refl
   picked-append keys (x ∷ xs) ys = ap (λ z. take 1 (drop x keys) ++ z) (picked-append keys xs ys) ∙ sym (append-assoc (take 1 (drop x keys)) (picked keys xs) (picked keys ys))
 
-  picked-take : (keys : List A) (rs : List ℕ) (i : ℕ) → Below (length keys) rs → picked keys (take i rs) ≡ take i (picked keys rs)
+  pub picked-take : (keys : List A) (rs : List ℕ) (i : ℕ) → Below (length keys) rs → picked keys (take i rs) ≡ take i (picked keys rs)
   picked-take keys rs zero b = refl
   picked-take keys [] (suc i) b = refl
   picked-take keys (r ∷ rs) (suc i) b =
       let s = some-key keys r (b .0) in
       ap (λ x. x ++ picked keys (take i rs)) (s .1) ∙ ap (λ x. s .0 ∷ x) (picked-take keys rs i (b .1)) ∙ sym (ap (λ x. take (suc i) (x ++ picked keys rs)) (s .1))
 
-  picked-drop : (keys : List A) (rs : List ℕ) (i : ℕ) → Below (length keys) rs → picked keys (drop i rs) ≡ drop i (picked keys rs)
+  pub picked-drop : (keys : List A) (rs : List ℕ) (i : ℕ) → Below (length keys) rs → picked keys (drop i rs) ≡ drop i (picked keys rs)
   picked-drop keys rs zero b = refl
   picked-drop keys [] (suc i) b = refl
   picked-drop keys (r ∷ rs) (suc i) b = picked-drop keys rs i (b .1) ∙ sym (ap (λ x. drop (suc i) (x ++ picked keys rs)) (some-key keys r (b .0) .1))

@@ -4,3 +4,4 @@ pub mod Lent
 pub mod Level
 pub mod Memory
 pub mod Tower
+pub mod Law

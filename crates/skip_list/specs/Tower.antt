@@ -1,13 +1,17 @@
--- The levels of the keys, the head's height, and the links that follow from them.
-use Prim.Native.Nat.{ℕ, _+_, _-_, _<_, _≤_}
+-- The levels of the keys, the head's height, and the links that follow from order, levels and height alone.
+-- The head is at position 0, the key at place i at position i + 1, and the end at the length plus 1.
+use Prim.Native.Nat.{ℕ, zero, suc, _+_, _<_, _≤_}
 use mathlib.Core.Path.{_≡_}
-use mathlib.Core.List.{List, [], _∷_, map}
-use lib.ListN.{length, getD}
+use mathlib.Core.Bool.{cond}
+use mathlib.Core.List.{List, [], _∷_, map, reverse}
+use lib.Dec.{ltb}
+use lib.ListN.{getD, take, drop}
 use Rattle.std.specs.declared.option.Option.{Option}
 use Rattle.std.specs.declared.option.Option.the-variants.{Some, None}
 use Rattle.std.specs.declared.result.Result.{Result}
 use Rattle.std.specs.declared.result.Result.the-variants.{Ok, Err}
 use Rattle.order.specs.Order.{At, Absent}
+use Rattle.links.specs.declared.Link.{Link}
 use Rattle.links.specs.Cells.{cells, levels}
 use Rattle.links.specs.Ring.{order}
 use Rattle.skip_list.specs.declared.lent.Lent.{Lent}
@@ -28,42 +32,52 @@ module _ {A : Type 0} (s : Lent A) where
   abbrev pub height : ℕ
   height = getD (levels (cells (s .links))) 0 0
 
--- the key of a row, or none for row 0
-abbrev pub RowName : {A : Type 0} → List A → ℕ → Option A → Type 0
-RowName keys row (Some x) = (0 < row) × (getD keys (row - 1) x ≡ x)
-RowName keys row None = row ≡ 0
+-- the first key of a list
+abbrev pub firstOf : {A : Type 0} → List A → Option A
+firstOf [] = None
+firstOf (x ∷ xs) = Some x
 
--- the key at position q, which reaches level l, or the end; the key n positions before p, or the head
-abbrev pub AheadName : {A : Type 0} → List A → List ℕ → ℕ → ℕ → Option A → Type 0
-AheadName xs vs l q (Some x) = At xs (q - 1) x × (l < getD vs (q - 1) 0)
-AheadName xs vs l q None = q ≡ length xs + 1
+-- the key of a row: row 0 is the head and the end, and has none
+abbrev pub keyOf : {A : Type 0} → List A → ℕ → Option A
+keyOf keys zero = None
+keyOf keys (suc r) = firstOf (drop r keys)
 
-abbrev pub BackName : {A : Type 0} → List A → List ℕ → ℕ → ℕ → ℕ → Option A → Type 0
-BackName xs vs l p n (Some x) = (n < p) × At xs (p - n - 1) x × (l < getD vs (p - n - 1) 0)
-BackName xs vs l p n None = n ≡ p
+-- a link between rows, as a link between keys
+abbrev pub keyLink : {A : Type 0} → List A → Link → KeyLink A
+keyLink keys k = record { key = keyOf keys (k .row); count = k .count }
 
--- The head is at position 0, the key at place i at position i + 1, and the end at the length plus 1.
--- The link ahead from position p at level l goes over keys that do not reach the level: to one that does, or to the end.
-pub record Ahead {A : Type 0} (xs : List A) (vs : List ℕ) (l p : ℕ) (k : KeyLink A) : Type 0 where
-  pub some : 0 < k .count
-  pub over : (q : ℕ) → p ≤ q → q + 1 < p + k .count → getD vs q 0 ≤ l
-  pub named : AheadName xs vs l (p + k .count) (k .key)
+abbrev pub further : {A : Type 0} → KeyLink A → KeyLink A
+further k = record { key = k .key; count = 1 + k .count }
 
--- The link back from position p: to a key that reaches the level, or to the head.
-pub record Back {A : Type 0} (xs : List A) (vs : List ℕ) (l p : ℕ) (k : KeyLink A) : Type 0 where
-  pub some : 0 < k .count
-  pub over : (q : ℕ) → p < q + 1 + k .count → q + 1 < p → getD vs q 0 ≤ l
-  pub named : BackName xs vs l p (k .count) (k .key)
+-- the link to the first key that reaches level l, of some keys with their levels: past the last key, to none
+abbrev pub nearestKey : {A : Type 0} → ℕ → List A → List ℕ → KeyLink A
+nearestKey l [] vs = record { key = None; count = 1 }
+nearestKey l (x ∷ xs) [] = record { key = None; count = 1 }
+nearestKey l (x ∷ xs) (v ∷ vs) = cond (ltb l v) (record { key = Some x; count = 1 }) (further (nearestKey l xs vs))
+
+-- the link ahead from position p, and the link back from position i + 1
+abbrev pub linkAhead : {A : Type 0} → List A → List ℕ → ℕ → ℕ → KeyLink A
+linkAhead xs vs l p = nearestKey l (drop p xs) (drop p vs)
+
+abbrev pub linkBack : {A : Type 0} → List A → List ℕ → ℕ → ℕ → KeyLink A
+linkBack xs vs l i = nearestKey l (reverse (take i xs)) (reverse (take i vs))
+
+-- the links of the head, and of the key at place i
+abbrev pub headLinks : {A : Type 0} → List A → List ℕ → ℕ → KeyLinks A
+headLinks xs vs l = record { ahead = linkAhead xs vs l 0; back = record { key = None; count = 0 } }
+
+abbrev pub linksAt : {A : Type 0} → List A → List ℕ → ℕ → ℕ → KeyLinks A
+linksAt xs vs l i = record { ahead = linkAhead xs vs l (suc i); back = linkBack xs vs l i }
 
 -- what a link report answers for the head, and for a key
 abbrev pub HeadLinks : {A : Type 0} → List A → List ℕ → ℕ → ℕ → Result (KeyLinks A) ListFault → Type 0
-HeadLinks xs vs h l (Ok r) = (l < h) × Ahead xs vs l 0 (r .ahead) × (r .back .key ≡ None) × (r .back .count ≡ 0)
+HeadLinks xs vs h l (Ok r) = (l < h) × (r ≡ headLinks xs vs l)
 HeadLinks xs vs h l (Err BadMemory) = ⊥
 HeadLinks xs vs h l (Err NoKey) = ⊥
 HeadLinks xs vs h l (Err NoLevel) = h ≤ l
 
 abbrev pub LinksOf : {A : Type 0} → List A → List ℕ → A → ℕ → Result (KeyLinks A) ListFault → Type 0
-LinksOf xs vs x l (Ok r) = (i : ℕ) × At xs i x × (l < getD vs i 0) × Ahead xs vs l (i + 1) (r .ahead) × Back xs vs l (i + 1) (r .back)
+LinksOf xs vs x l (Ok r) = (i : ℕ) × At xs i x × (l < getD vs i 0) × (r ≡ linksAt xs vs l i)
 LinksOf xs vs x l (Err BadMemory) = ⊥
 LinksOf xs vs x l (Err NoKey) = Absent xs x
 LinksOf xs vs x l (Err NoLevel) = (i : ℕ) × At xs i x × (getD vs i 0 ≤ l)
@@ -76,12 +90,3 @@ Linked xs vs h (Some x) l r = LinksOf xs vs x l r
 abbrev pub Leveled : {A : Type 0} → List A → List ℕ → A → Option ℕ → Type 0
 Leveled xs vs x (Some v) = (i : ℕ) × At xs i x × (v ≡ getD vs i 0)
 Leveled xs vs x None = Absent xs x
-
--- a link between rows, as a link between keys
-pub record Names {A : Type 0} (keys : List A) (row count : ℕ) (k : KeyLink A) : Type 0 where
-  pub same : k .count ≡ count
-  pub key : RowName keys row (k .key)
-
--- at each position, at most one link ahead is right
-abbrev pub OneAhead : Type 0 → ℕ → Type 0
-OneAhead A l = (xs : List A) (vs : List ℕ) (p : ℕ) (a b : KeyLink A) → Ahead xs vs l p a → Ahead xs vs l p b → a .count ≡ b .count

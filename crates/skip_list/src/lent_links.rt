@@ -1,11 +1,10 @@
 // Levels and links by row, told as levels and links of keys.
-ghost use Prim.Native.Nat.{_+_, _<_, _≤_};
+ghost use Prim.Native.Nat.{ℕ, _<_, _≤_};
 ghost use mathlib.Core.Path.{_≡_};
 ghost use lib.ListN.{getD};
-ghost use Rattle.std.specs.declared.option.Option.the-variants.{None};
-ghost use Rattle.order.specs.Order.{At};
+ghost use Rattle.order.specs.Order.{At, Stands};
 ghost use Rattle.skip_list.specs.Lent.{Ready, keysOf, kept, used, size};
-ghost use Rattle.skip_list.specs.Tower.{Ahead, Back, Names, height, highs};
+ghost use Rattle.skip_list.specs.Tower.{headLinks, height, highs, keyLink, linksAt};
 use crate::lent::Lent;
 use crate::lent::element;
 use crate::report::KeyLink;
@@ -19,7 +18,7 @@ impl<'a, K: HashKey> Lent<'a, K> {
     // A link between rows, as one between keys.
     fn named(&self, link: Link) -> KeyLink<K>
         requires { ⌜ link .row ≤ size (now self) ⌝ }
-        ensures { λ r. ⌜ Names (keysOf (now (self .entry))) (link .row) (link .count) r ⌝ }
+        ensures { λ r. ⌜ r ≡ keyLink (keysOf (now (self .entry))) link ⌝ }
     {
         if link.row == 0 {
             return KeyLink {
@@ -37,8 +36,7 @@ impl<'a, K: HashKey> Lent<'a, K> {
     // The head's links at a level.
     pub fn head_links(&self, level: u8) -> KeyLinks<K>
         requires { ⌜ Ready (now self) ⌝ ∗ ⌜ level < height (now self) ⌝ }
-        ensures ahead { λ r. ⌜ Ahead (kept (now (self .entry))) (highs (now (self .entry))) level 0 (r .ahead) ⌝ }
-        ensures back { λ r. ⌜ (r .back .key ≡ None) × (r .back .count ≡ 0) ⌝ }
+        ensures { λ r. ⌜ r ≡ headLinks (kept (now (self .entry))) (highs (now (self .entry))) level ⌝ }
     {
         let ahead = self.links.link(0, Way::Ahead, level);
         KeyLinks {
@@ -50,19 +48,18 @@ impl<'a, K: HashKey> Lent<'a, K> {
         }
     }
 
-    // The level of a row at its place.
-    pub fn level_at(&self, place: u32, row: u16) -> u8
-        requires { ⌜ Ready (now self) ⌝ ∗ ⌜ At (used (now self)) place row ⌝ }
-        ensures { λ r. ⌜ r ≡ getD (highs (now (self .entry))) place 0 ⌝ }
+    // The level of a row of the order.
+    pub fn level_at(&self, row: u16) -> u8
+        requires { ⌜ Ready (now self) ⌝ ∗ ⌜ Stands (used (now self)) row ⌝ }
+        ensures { λ r. ⌜ ((i : ℕ) → At (used (now (self .entry))) i row → r ≡ getD (highs (now (self .entry))) i 0) ⌝ }
     {
         self.links.level_of(row + 1)
     }
 
-    // The links at a level of a row at its place.
-    pub fn links_at(&self, place: u32, row: u16, level: u8) -> KeyLinks<K>
-        requires { ⌜ Ready (now self) ⌝ ∗ ⌜ At (used (now self)) place row ⌝ ∗ ⌜ level < getD (highs (now self)) place 0 ⌝ }
-        ensures ahead { λ r. ⌜ Ahead (kept (now (self .entry))) (highs (now (self .entry))) level (place + 1) (r .ahead) ⌝ }
-        ensures back { λ r. ⌜ Back (kept (now (self .entry))) (highs (now (self .entry))) level (place + 1) (r .back) ⌝ }
+    // The links at a level of a row of the order.
+    pub fn links_at(&self, row: u16, level: u8) -> KeyLinks<K>
+        requires { ⌜ Ready (now self) ⌝ ∗ ⌜ ((i : ℕ) × At (used (now self)) i row × (level < getD (highs (now self)) i 0)) ⌝ }
+        ensures { λ r. ⌜ ((i : ℕ) → At (used (now (self .entry))) i row → level < getD (highs (now (self .entry))) i 0 → r ≡ linksAt (kept (now (self .entry))) (highs (now (self .entry))) level i) ⌝ }
     {
         let ahead = self.links.link(row + 1, Way::Ahead, level);
         let back = self.links.link(row + 1, Way::Back, level);

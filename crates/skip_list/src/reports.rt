@@ -1,7 +1,7 @@
 // Reports of levels and links.
 ghost use mathlib.Core.List.{List};
 ghost use Rattle.skip_list.specs.Lent.{Sound, kept};
-ghost use Rattle.skip_list.specs.Tower.{HeadLinks, Leveled, Linked, LinksOf, OneAhead, height, highs};
+ghost use Rattle.skip_list.specs.Tower.{HeadLinks, Leveled, Linked, LinksOf, height, highs};
 ghost use Rattle.skip_list.specs.History.{Deed, Largest, LastDraws, LevelTold, Told, heightAfter, highsAfter, orderAfter};
 use crate::fault::ListFault;
 use crate::list::SkipList;
@@ -16,14 +16,12 @@ impl<'a, K: HashKey> SkipList<'a, K> {
         ensures told { λ r. ⌜ (Sound (now (self .entry) .lent) (K·Key .identity) (K·HashKey .hashed) → (ds : List (Deed K)) → Told ds (now (self .entry) .lent) → LevelTold ds key r) ⌝ }
     {
         let row = self.lent.find(&key)?;
-        let place = self.lent.place(row);
-        Some(self.lent.level_at(place, row))
+        Some(self.lent.level_at(row))
     }
 
     // The links ahead and back, at one level, of a key or of the head.
     pub fn link_report(&self, of: Option<K>, level: u8) -> Result<KeyLinks<K>, ListFault>
         ensures links { λ r. ⌜ (Sound (now (self .entry) .lent) (K·Key .identity) (K·HashKey .hashed) → Linked (kept (now (self .entry) .lent)) (highs (now (self .entry) .lent)) (height (now (self .entry) .lent)) of level r) ⌝ }
-        ensures one { λ _. ⌜ OneAhead K level ⌝ }
         ensures told { λ r. ⌜ (Sound (now (self .entry) .lent) (K·Key .identity) (K·HashKey .hashed) → (ds : List (Deed K)) → Told ds (now (self .entry) .lent) → Linked (orderAfter ds) (highsAfter ds) (heightAfter ds) of level r × Largest ds × LastDraws ds) ⌝ }
     {
         match of {
@@ -47,10 +45,9 @@ impl<'a, K: HashKey> SkipList<'a, K> {
         let Some(row) = self.lent.find(&key) else {
             return Err(ListFault::NoKey);
         };
-        let place = self.lent.place(row);
-        if level >= self.lent.level_at(place, row) {
+        if level >= self.lent.level_at(row) {
             return Err(ListFault::NoLevel);
         }
-        Ok(self.lent.links_at(place, row, level))
+        Ok(self.lent.links_at(row, level))
     }
 }

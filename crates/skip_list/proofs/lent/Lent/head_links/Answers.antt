@@ -1,6 +1,12 @@
 use native.Mathlib.Omega.{arith}
-use mathlib.Core.Path.{refl}
-use Rattle.skip_list.proofs.Towers.{head-near, ahead, ahead-low}
+use Prim.Native.Nat.{_≤_}
+use mathlib.Core.Path.{_≡_, ap, subst, sym, _∙_}
+use Rattle.std.specs.declared.option.Option.the-variants.{None}
+use Rattle.links.specs.declared.Link.{Link}
+use Rattle.skip_list.specs.declared.report.KeyLink.{KeyLink}
+use Rattle.skip_list.specs.Lent.{keysOf, kept, size}
+use Rattle.skip_list.specs.Tower.{highs, keyLink, linkAhead}
+use Rattle.skip_list.proofs.Laws.{ahead-low, ahead-of, head-keeps}
 use Rattle.skip_list.proofs.lent.Lent.head_links.Needs as need
 
 pub link-ahead-requires : need.link-ahead-requires
@@ -8,10 +14,12 @@ link-ahead-requires g c κs = (omega (arith, c .pre .0 .sized), omega (arith, c 
 
 pub named-requires : need.named-requires
 named-requires g c κs =
-    ahead-low (c .args .self .now) (c .pre .0) (c .args .level) 0 (omega arith) (c .link-ahead .result) (head-near (c .args .self .now) (c .pre .0) (c .args .level) (c .link-ahead .result) (c .pre .1) (c .link-ahead .ensures) .1)
+    subst (λ (k : Link). k .row ≤ size (c .args .self .now)) (sym (c .link-ahead .ensures ∙ head-keeps (c .args .self .now) (c .pre .0) (c .args .level) (c .pre .1)))
+    (ahead-low (c .args .self .now) (c .pre .0) (c .args .level) 0)
 
 pub returns : need.returns
-returns g c = record {
-  ahead = ahead (c .args .self .now) (c .pre .0) (c .args .level) 0 (omega arith) (c .link-ahead .result) (head-near (c .args .self .now) (c .pre .0) (c .args .level) (c .link-ahead .result) (c .pre .1) (c .link-ahead .ensures) .1) (c .named .result) (c .named .ensures);
-  back = (refl, refl);
-}
+returns g c =
+    let s = c .args .self .now in
+    let e : c .named .result ≡ linkAhead (kept s) (highs s) (c .args .level) 0 =
+    c .named .ensures ∙ ap (keyLink (keysOf s)) (c .link-ahead .ensures ∙ head-keeps s (c .pre .0) (c .args .level) (c .pre .1)) ∙ ahead-of s (c .pre .0) (c .args .level) 0 in
+    ap (λ (k : KeyLink _). record { ahead = k; back = record { key = None; count = 0 } }) e

@@ -12,9 +12,4 @@ head-links-requires g c κs =
     (ready-list (c .args .self .now), omega (arith, levels-head (c .args .self .now .lent .links .head) (c .args .self .now .lent .links .rows .now) 0 refl, c .if-level-self .left))
 
 pub returns : need.returns
-returns g c = (
-  omega (arith, levels-head (c .args .self .now .lent .links .head) (c .args .self .now .lent .links .rows .now) 0 refl, c .if-level-self .left),
-  c .head-links .ensures .ahead,
-  c .head-links .ensures .back .0,
-  c .head-links .ensures .back .1,
-)
+returns g c = (omega (arith, levels-head (c .args .self .now .lent .links .head) (c .args .self .now .lent .links .rows .now) 0 refl, c .if-level-self .left), c .head-links .ensures)
