@@ -75,13 +75,9 @@ module _ {A : Type 0} where
       )
   names-behind xs i n None le a = (omega (arith, a, length-reverse (take i xs) [], length-take-le i xs le), omega (arith, a, length-reverse (take i xs) [], length-take-le i xs le))
 
-length-reverse-numbers : (us zs : List ℕ) → length (reverseAux us zs) ≡ length us + length zs
-length-reverse-numbers [] zs = omega arith
-length-reverse-numbers (u ∷ us) zs = omega (arith, length-reverse-numbers us (u ∷ zs))
-
 module _ {A : Type 0} where
   pub back-names : (l : ℕ) (xs : List A) (vs : List ℕ) → length vs ≡ length xs → (i : ℕ) → i ≤ length xs →
       (linkBack xs vs l i .count ≤ suc i) × NamesBack xs (suc i - linkBack xs vs l i .count) (linkBack xs vs l i .key)
   back-names l xs vs e i le =
       names-behind xs i _ _ le (nearest-names l (reverse (take i xs)) (reverse (take i vs))
-      (length-reverse-numbers (take i vs) [] ∙ omega (arith, length-reverse (take i xs) [], length-take-le i xs le, length-take-le i vs (omega (arith, e)))))
+      (length-reverse {A = ℕ} (take i vs) [] ∙ omega (arith, length-reverse (take i xs) [], length-take-le i xs le, length-take-le i vs (omega (arith, e)))))

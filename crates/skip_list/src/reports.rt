@@ -2,7 +2,7 @@
 ghost use mathlib.Core.List.{List};
 ghost use Rattle.skip_list.specs.Lent.{Sound, kept};
 ghost use Rattle.skip_list.specs.Tower.{HeadLinks, Leveled, Linked, LinksOf, height, highs};
-ghost use Rattle.skip_list.specs.History.{Deed, Largest, LastDraws, LevelTold, Told, heightAfter, highsAfter, orderAfter};
+ghost use Rattle.skip_list.specs.History.{Deed, LevelTold, Told, heightAfter, levelsAfter, orderAfter};
 use crate::fault::ListFault;
 use crate::list::SkipList;
 use crate::report::KeyLinks;
@@ -22,7 +22,7 @@ impl<'a, K: HashKey> SkipList<'a, K> {
     // The links ahead and back, at one level, of a key or of the head.
     pub fn link_report(&self, of: Option<K>, level: u8) -> Result<KeyLinks<K>, ListFault>
         ensures links { λ r. ⌜ (Sound (now (self .entry) .lent) (K·Key .identity) (K·HashKey .hashed) → Linked (kept (now (self .entry) .lent)) (highs (now (self .entry) .lent)) (height (now (self .entry) .lent)) of level r) ⌝ }
-        ensures told { λ r. ⌜ (Sound (now (self .entry) .lent) (K·Key .identity) (K·HashKey .hashed) → (ds : List (Deed K)) → Told ds (now (self .entry) .lent) → Linked (orderAfter ds) (highsAfter ds) (heightAfter ds) of level r × Largest ds × LastDraws ds) ⌝ }
+        ensures told { λ r. ⌜ (Sound (now (self .entry) .lent) (K·Key .identity) (K·HashKey .hashed) → (ds : List (Deed K)) → Told ds (now (self .entry) .lent) → Linked (orderAfter ds) (levelsAfter ds) (heightAfter ds) of level r) ⌝ }
     {
         match of {
             None => self.head_links(level),

@@ -1,5 +1,7 @@
 use mathlib.Core.Path.{ap}
 use Rattle.skip_list.specs.Lent.{keysOf, picked}
+use mathlib.Core.List.{[]}
+use Rattle.skip_list.proofs.Histories.{tells}
 use Rattle.skip_list.proofs.Sounds.{ready-list, emptied, sound-none}
 use Rattle.skip_list.proofs.list.SkipList.clear.Needs as need
 
@@ -18,6 +20,6 @@ returns g c =
     record {
       empty = e;
       room = c .clear .ensures .size;
-      told = record { order = e; highs-are = c .clear .ensures .highs; height-is = c .clear .ensures .height; fair = tt };
+      told = tells [] _ (c .clear .ensures .ready) e (c .clear .ensures .highs) (c .clear .ensures .height) tt;
       sound = sound-none (g .K·Key .identity) (g .K·HashKey .hashed) s (c .clear .ensures .used) (c .clear .ensures .chains);
     }

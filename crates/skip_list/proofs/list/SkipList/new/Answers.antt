@@ -9,6 +9,8 @@ use lib.ListN.{length}
 use Rattle.order.specs.Order.{Distinct}
 use Rattle.index.specs.Index.{Index, homes}
 use Rattle.skip_list.specs.Lent.{keysOf, picked, kept, Chained}
+use mathlib.Core.List.{[]}
+use Rattle.skip_list.proofs.Histories.{tells}
 use Rattle.skip_list.proofs.Sounds.{usable-fits, emptied, sound-none}
 use Rattle.skip_list.proofs.list.SkipList.new.Needs as need
 
@@ -27,6 +29,6 @@ returns g c =
     record {
       empty = e;
       room = subst (λ (n : ℕ). Usable (length (c .args .keys .now)) (length (c .args .rows .now)) (length (c .args .slots .now)) n) (sym (c .new-lent .ensures .size)) (c .usable-rows-n .ensures);
-      told = record { order = e; highs-are = c .new-lent .ensures .highs; height-is = c .new-lent .ensures .height; fair = tt };
+      told = tells [] _ (c .new-lent .ensures .ready) e (c .new-lent .ensures .highs) (c .new-lent .ensures .height) tt;
       sound = sound-none (g .K·Key .identity) (g .K·HashKey .hashed) s (c .new-lent .ensures .used) (c .new-lent .ensures .chains);
     }

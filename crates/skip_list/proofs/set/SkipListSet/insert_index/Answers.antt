@@ -102,7 +102,7 @@ returns g c =
           (none-found (g .K·Key .identity) (g .K·HashKey .hashed) (g .K·Key·met .whole) (c .args .self .now .lent) (ready-list (c .args .self .now)) (c .args .key) (c .find .result) (sym (c .is-some .ensures) ∙ c .if-is-some .left) (c .find .ensures .row _ (h .0))) h;
       kept = λ e. absurd (true≢false e);
       told = λ h ds w.
-          told-put ds (c .args .self .now .lent) (c .put .last .self) (c .args .place) (c .args .key) (c .args .draw) (c .level-of-level .result) w
+          told-put ds (c .args .self .now .lent) (c .put .last .self) (c .args .place) (c .args .key) (c .args .draw) (c .level-of-level .result) (c .put .ensures .ready) w
           (none-found (g .K·Key .identity) (g .K·HashKey .hashed) (g .K·Key·met .whole) (c .args .self .now .lent) (ready-list (c .args .self .now)) (c .args .key) (c .find .result) (sym (c .is-some .ensures) ∙ c .if-is-some .left) (c .find .ensures .row _ (h .0)))
           (omega (arith, l, c .if-place-self .left)) k (c .put .ensures .highs) (c .put .ensures .height) (c .level-of-level .ensures .level);
     }

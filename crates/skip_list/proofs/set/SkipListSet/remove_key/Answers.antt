@@ -54,7 +54,7 @@ returns g c =
           (found-at (g .K·Key .identity) (g .K·HashKey .hashed) (g .K·Key·met .whole) (c .args .self .now .lent) (ready-list (c .args .self .now)) (c .args .key) (c .in-Continue-row .row) (c .take .result) f (c .take .ensures .place) .0) f h;
       kept = λ e. absurd (true≢false e);
       told = λ h ds w.
-          told-out ds (c .args .self .now .lent) (c .take .last .self) (c .take .result) w
+          told-out ds (c .args .self .now .lent) (c .take .last .self) (c .take .result) (c .take .ensures .ready) w
           (found-at (g .K·Key .identity) (g .K·HashKey .hashed) (g .K·Key·met .whole) (c .args .self .now .lent) (ready-list (c .args .self .now)) (c .args .key) (c .in-Continue-row .row) (c .take .result) (c .in-Continue-row .ensures tt .row _ (h .0)) (c .take .ensures .place) .0)
           k (c .take .ensures .highs) (c .take .ensures .height);
     }
