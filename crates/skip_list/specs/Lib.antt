@@ -3,5 +3,7 @@ pub mod History
 pub mod Lent
 pub mod Level
 pub mod Memory
+pub mod Play
+pub mod Splice
 pub mod Tower
 pub mod Law

@@ -1,4 +1,5 @@
 // The row list: an indexed skip list over lent rows, which is an ordered set.
+pub mod call;
 pub mod fault;
 pub mod lent;
 mod lent_links;
@@ -6,6 +7,8 @@ mod lent_moves;
 pub mod level;
 pub mod list;
 pub mod memory;
+pub mod play;
 pub mod report;
 mod reports;
 mod set;
+mod splice;

@@ -1,0 +1,95 @@
+-- Calls on a list that a history built, and scripts of them.
+use Prim.Native.Nat.{ℕ, _+_, _<_, _≤_}
+use mathlib.Core.Path.{_≡_, refl, sym, ap, subst, _∙_}
+use mathlib.Core.List.{List, [], _∷_, _++_}
+use lib.ListN.{length}
+use Rattle.std.specs.Holes.{inserted, removed}
+use Rattle.std.specs.declared.option.Option.{Option}
+use Rattle.std.specs.declared.option.Option.the-variants.{Some, None}
+use Rattle.std.specs.declared.result.Result.{Result}
+use Rattle.std.specs.declared.result.Result.the-variants.{Ok, Err}
+use Rattle.order.specs.declared.fault.SetFault.{SetFault}
+use Rattle.order.specs.Order.{At, Finds, Gives, InsertsAfter, InsertsAt, Meaning, RemovesAt, RemovesKey}
+use Rattle.skip_list.specs.declared.call.Answer.{Answer}
+use Rattle.skip_list.specs.declared.call.Answer.the-variants.{Key, Place, Put, Spliced}
+use Rattle.skip_list.specs.declared.call.Call.{Call}
+use Rattle.skip_list.specs.declared.call.Call.the-variants.{IndexOf, InsertAfter, InsertHead, InsertIndex, KeyOf, RemoveIndex, RemoveKey, Splice}
+use Rattle.skip_list.specs.declared.call.Turn.{Turn}
+use Rattle.skip_list.specs.declared.lent.Lent.{Lent}
+use Rattle.skip_list.specs.History.{Deed, Told, ToldNext, afterAt, afterKey, afterPut, orderAfter, out, put}
+use Rattle.skip_list.specs.Lent.{kept, means, size}
+use Rattle.skip_list.specs.Play.{Adds, Carries, Plays, PutAfter}
+use Rattle.skip_list.specs.Splice.{meant}
+
+module _ {A : Type 0} where
+  -- what a call leaves of the room
+  room-put : (v w : Meaning A) (i : ℕ) (k : A) (r : Result Unit SetFault) → InsertsAt v i k r w → w .room ≡ v .room
+  room-put v w i k (Ok _) t = ap (λ (m : Meaning A). m .room) (t .1)
+  room-put v w i k (Err _) t = ap (λ (m : Meaning A). m .room) (t .1)
+
+  room-after : (v w : Meaning A) (p k : A) (r : Result Unit SetFault) → InsertsAfter v p k r w → w .room ≡ v .room
+  room-after v w p k (Ok u) t = room-put v w (t .0 + 1) k (Ok u) (t .2)
+  room-after v w p k (Err _) t = ap (λ (m : Meaning A). m .room) (t .1)
+
+  room-key : (v w : Meaning A) (k : A) (r : Option ℕ) → RemovesKey v k r w → w .room ≡ v .room
+  room-key v w k (Some i) t = ap (λ (m : Meaning A). m .room) (t .1)
+  room-key v w k None t = ap (λ (m : Meaning A). m .room) (t .1)
+
+  room-at : (v w : Meaning A) (i : ℕ) (r : Option A) → RemovesAt v i r w → w .room ≡ v .room
+  room-at v w i (Some k) t = ap (λ (m : Meaning A). m .room) (t .1)
+  room-at v w i None t = ap (λ (m : Meaning A). m .room) (t .1)
+
+  -- the meaning of a list is that of its deeds
+  meaning-told : (n : ℕ) (ds : List (Deed A)) (s : Lent A) → size s ≡ n → Told ds s → means s ≡ meant n ds
+  meaning-told n ds s e w = ap (λ (m : ℕ). record { order = kept s; room = m }) e ∙ ap (λ (xs : List A). record { order = xs; room = n }) (w .order)
+
+  both : (R : Meaning A → Meaning A → Type 0) (ds es : List (Deed A)) (s t : Lent A) → size t ≡ size s → Told ds s → Told es t → R (means s) (means t) → R (meant (size s) ds) (meant (size s) es)
+  both R ds es s t e w x h =
+      subst (λ (m : Meaning A). R m (meant (size s) es)) (meaning-told (size s) ds s refl w)
+      (subst (λ (m : Meaning A). R (means s) m) (meaning-told (size s) es t e x) h)
+
+  module _ (ds : List (Deed A)) (s t : Lent A) (w : Told ds s) where
+    pub carries-head : (k : A) (d : ℕ) (r : Result Unit SetFault) → InsertsAt (means s) 0 k r (means t) → Told (afterPut r (put 0 k d) ds) t → Carries ds s (InsertHead k d) (Put r) t
+    carries-head k d r h x = record {
+      after = afterPut r (put 0 k d) ds;
+      adds = (r, refl, both (λ v u. InsertsAt v 0 k r u) ds _ s t (room-put _ _ 0 k r h) w x h, refl);
+      told = x;
+    }
+
+    pub carries-index : (i : ℕ) (k : A) (d : ℕ) (r : Result Unit SetFault) → InsertsAt (means s) i k r (means t) → Told (afterPut r (put i k d) ds) t → Carries ds s (InsertIndex i k d) (Put r) t
+    carries-index i k d r h x = record {
+      after = afterPut r (put i k d) ds;
+      adds = (r, refl, both (λ v u. InsertsAt v i k r u) ds _ s t (room-put _ _ i k r h) w x h, refl);
+      told = x;
+    }
+
+    pub carries-after : (p k : A) (d : ℕ) (r : Result Unit SetFault) → InsertsAfter (means s) p k r (means t) → ToldNext r p k d ds t → Carries ds s (InsertAfter p k d) (Put r) t
+    carries-after p k d (Ok u) h x = record {
+      after = put (x .0 + 1) k d ∷ ds;
+      adds = (Ok u, refl, both (λ v m. InsertsAfter v p k (Ok u) m) ds _ s t (room-after _ _ p k (Ok u) h) w (x .2) h, (x .0, x .1, refl));
+      told = x .2;
+    }
+    carries-after p k d (Err e) h x = record {
+      after = ds;
+      adds = (Err e, refl, both (λ v m. InsertsAfter v p k (Err e) m) ds ds s t (room-after _ _ p k (Err e) h) w x h, refl);
+      told = x;
+    }
+
+    pub carries-out : (k : A) (r : Option ℕ) → RemovesKey (means s) k r (means t) → Told (afterKey r ds) t → Carries ds s (RemoveKey k) (Place r) t
+    carries-out k r h x = record {
+      after = afterKey r ds;
+      adds = (r, refl, both (λ v u. RemovesKey v k r u) ds _ s t (room-key _ _ k r h) w x h, refl);
+      told = x;
+    }
+
+    pub carries-out-at : (i : ℕ) (r : Option A) → RemovesAt (means s) i r (means t) → Told (afterAt r i ds) t → Carries ds s (RemoveIndex i) (Key r) t
+    carries-out-at i r h x = record {
+      after = afterAt r i ds;
+      adds = (r, refl, both (λ v u. RemovesAt v i r u) ds _ s t (room-at _ _ i r h) w x h, refl);
+      told = x;
+    }
+
+  -- a call more
+  pub plays-more : (n : ℕ) (ds es fs : List (Deed A)) (ts : List (Turn A)) (t : Turn A) → Plays n ds ts es → Adds n es (t .call) (t .answer) fs → Plays n ds (ts ++ t ∷ []) fs
+  plays-more n ds es fs [] t p a = (fs, subst (λ (x : List (Deed A)). Adds n x (t .call) (t .answer) fs) p a, refl)
+  plays-more n ds es fs (u ∷ ts) t p a = (p .0, p .1, plays-more n (p .0) es fs ts t (p .2) a)
