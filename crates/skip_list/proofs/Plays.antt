@@ -2,14 +2,18 @@
 use Prim.Native.Nat.{ℕ, _+_, _<_, _≤_}
 use mathlib.Core.Path.{_≡_, refl, sym, ap, subst, _∙_}
 use mathlib.Core.List.{List, [], _∷_, _++_}
+use mathlib.Core.Bool.{false}
 use lib.ListN.{length}
+use Rattle.std.specs.Options.{isSome}
+use Rattle.std.specs.Results.{isOk}
+use Rattle.std.proofs.shelf.Tests.{true≢false}
 use Rattle.std.specs.Holes.{inserted, removed}
 use Rattle.std.specs.declared.option.Option.{Option}
 use Rattle.std.specs.declared.option.Option.the-variants.{Some, None}
 use Rattle.std.specs.declared.result.Result.{Result}
 use Rattle.std.specs.declared.result.Result.the-variants.{Ok, Err}
 use Rattle.order.specs.declared.fault.SetFault.{SetFault}
-use Rattle.order.specs.Order.{At, Finds, Gives, InsertsAfter, InsertsAt, Meaning, RemovesAt, RemovesKey}
+use Rattle.order.specs.Order.{At, Found, Given, InsertsAfter, InsertsAt, Meaning, RemovesAt, RemovesKey}
 use Rattle.skip_list.specs.declared.call.Answer.{Answer}
 use Rattle.skip_list.specs.declared.call.Answer.the-variants.{Key, Place, Put, Spliced}
 use Rattle.skip_list.specs.declared.call.Call.{Call}
@@ -19,7 +23,7 @@ use Rattle.skip_list.specs.declared.lent.Lent.{Lent}
 use Rattle.skip_list.specs.History.{Deed, Told, ToldNext, afterAt, afterKey, afterPut, orderAfter, out, put}
 use Rattle.skip_list.specs.Lent.{kept, means, size}
 use Rattle.skip_list.specs.Play.{Adds, Carries, Plays, PutAfter}
-use Rattle.skip_list.specs.Splice.{meant}
+use Rattle.skip_list.specs.Splice.{SplicesTold, Unmoved, meant}
 
 module _ {A : Type 0} where
   -- what a call leaves of the room
@@ -49,45 +53,46 @@ module _ {A : Type 0} where
       (subst (λ (m : Meaning A). R (means s) m) (meaning-told (size s) es t e x) h)
 
   module _ (ds : List (Deed A)) (s t : Lent A) (w : Told ds s) where
-    pub carries-head : (k : A) (d : ℕ) (r : Result Unit SetFault) → InsertsAt (means s) 0 k r (means t) → Told (afterPut r (put 0 k d) ds) t → Carries ds s (InsertHead k d) (Put r) t
-    carries-head k d r h x = record {
-      after = afterPut r (put 0 k d) ds;
-      adds = (r, refl, both (λ v u. InsertsAt v 0 k r u) ds _ s t (room-put _ _ 0 k r h) w x h, refl);
-      told = x;
-    }
+    pub carries-head : (k : A) (d : ℕ) (r : Result Unit SetFault) → InsertsAt (means s) 0 k r (means t) → Told (afterPut r (put 0 k d) ds) t → (isOk r ≡ false → t ≡ s) → Carries ds s (InsertHead k d) (Put r) t
+    carries-head k d r h x u =
+        let e = room-put _ _ 0 k r h in
+        record { after = afterPut r (put 0 k d) ds; adds = (r, refl, both (λ v m. InsertsAt v 0 k r m) ds _ s t e w x h, refl); told = x; room = e; unmoved = u }
 
-    pub carries-index : (i : ℕ) (k : A) (d : ℕ) (r : Result Unit SetFault) → InsertsAt (means s) i k r (means t) → Told (afterPut r (put i k d) ds) t → Carries ds s (InsertIndex i k d) (Put r) t
-    carries-index i k d r h x = record {
-      after = afterPut r (put i k d) ds;
-      adds = (r, refl, both (λ v u. InsertsAt v i k r u) ds _ s t (room-put _ _ i k r h) w x h, refl);
-      told = x;
-    }
+    pub carries-index : (i : ℕ) (k : A) (d : ℕ) (r : Result Unit SetFault) → InsertsAt (means s) i k r (means t) → Told (afterPut r (put i k d) ds) t → (isOk r ≡ false → t ≡ s) → Carries ds s (InsertIndex i k d) (Put r) t
+    carries-index i k d r h x u =
+        let e = room-put _ _ i k r h in
+        record { after = afterPut r (put i k d) ds; adds = (r, refl, both (λ v m. InsertsAt v i k r m) ds _ s t e w x h, refl); told = x; room = e; unmoved = u }
 
-    pub carries-after : (p k : A) (d : ℕ) (r : Result Unit SetFault) → InsertsAfter (means s) p k r (means t) → ToldNext r p k d ds t → Carries ds s (InsertAfter p k d) (Put r) t
-    carries-after p k d (Ok u) h x = record {
-      after = put (x .0 + 1) k d ∷ ds;
-      adds = (Ok u, refl, both (λ v m. InsertsAfter v p k (Ok u) m) ds _ s t (room-after _ _ p k (Ok u) h) w (x .2) h, (x .0, x .1, refl));
-      told = x .2;
-    }
-    carries-after p k d (Err e) h x = record {
-      after = ds;
-      adds = (Err e, refl, both (λ v m. InsertsAfter v p k (Err e) m) ds ds s t (room-after _ _ p k (Err e) h) w x h, refl);
-      told = x;
-    }
+    pub carries-after : (p k : A) (d : ℕ) (r : Result Unit SetFault) → InsertsAfter (means s) p k r (means t) → ToldNext r p k d ds t → (isOk r ≡ false → t ≡ s) → Carries ds s (InsertAfter p k d) (Put r) t
+    carries-after p k d (Ok o) h x u =
+        let e = room-after _ _ p k (Ok o) h in
+        record { after = put (x .0 + 1) k d ∷ ds; adds = (Ok o, refl, both (λ v m. InsertsAfter v p k (Ok o) m) ds _ s t e w (x .2) h, (x .0, x .1, refl)); told = x .2; room = e; unmoved = u }
+    carries-after p k d (Err f) h x u =
+        let e = room-after _ _ p k (Err f) h in
+        record { after = ds; adds = (Err f, refl, both (λ v m. InsertsAfter v p k (Err f) m) ds ds s t e w x h, refl); told = x; room = e; unmoved = u }
 
-    pub carries-out : (k : A) (r : Option ℕ) → RemovesKey (means s) k r (means t) → Told (afterKey r ds) t → Carries ds s (RemoveKey k) (Place r) t
-    carries-out k r h x = record {
-      after = afterKey r ds;
-      adds = (r, refl, both (λ v u. RemovesKey v k r u) ds _ s t (room-key _ _ k r h) w x h, refl);
-      told = x;
-    }
+    pub carries-out : (k : A) (r : Option ℕ) → RemovesKey (means s) k r (means t) → Told (afterKey r ds) t → (isSome r ≡ false → t ≡ s) → Carries ds s (RemoveKey k) (Place r) t
+    carries-out k r h x u =
+        let e = room-key _ _ k r h in
+        record { after = afterKey r ds; adds = (r, refl, both (λ v m. RemovesKey v k r m) ds _ s t e w x h, refl); told = x; room = e; unmoved = u }
 
-    pub carries-out-at : (i : ℕ) (r : Option A) → RemovesAt (means s) i r (means t) → Told (afterAt r i ds) t → Carries ds s (RemoveIndex i) (Key r) t
-    carries-out-at i r h x = record {
-      after = afterAt r i ds;
-      adds = (r, refl, both (λ v u. RemovesAt v i r u) ds _ s t (room-at _ _ i r h) w x h, refl);
-      told = x;
-    }
+    pub carries-out-at : (i : ℕ) (r : Option A) → RemovesAt (means s) i r (means t) → Told (afterAt r i ds) t → (isSome r ≡ false → t ≡ s) → Carries ds s (RemoveIndex i) (Key r) t
+    carries-out-at i r h x u =
+        let e = room-at _ _ i r h in
+        record { after = afterAt r i ds; adds = (r, refl, both (λ v m. RemovesAt v i r m) ds _ s t e w x h, refl); told = x; room = e; unmoved = u }
+
+    pub carries-found : (k : A) (r : Option ℕ) → Found (kept s) k r → t ≡ s → Carries ds s (IndexOf k) (Place r) t
+    carries-found k r h e =
+        record { after = ds; adds = (r, refl, subst (λ (xs : List A). Found xs k r) (w .order) h, refl); told = subst (λ (x : Lent A). Told ds x) (sym e) w; room = ap size e; unmoved = λ _. e }
+
+    pub carries-given : (i : ℕ) (r : Option A) → Given (kept s) i r → t ≡ s → Carries ds s (KeyOf i) (Key r) t
+    carries-given i r h e =
+        record { after = ds; adds = (r, refl, subst (λ (xs : List A). Given xs i r) (w .order) h, refl); told = subst (λ (x : Lent A). Told ds x) (sym e) w; room = ap size e; unmoved = λ _. e }
+
+  -- a splice that is turned down
+  pub unmoved-splice : (s t : Lent A) (r : Result ℕ SetFault) → Unmoved r s t → isOk r ≡ false → t ≡ s
+  unmoved-splice s t (Ok n) u e = absurd (true≢false e)
+  unmoved-splice s t (Err f) u e = u
 
   -- a call more
   pub plays-more : (n : ℕ) (ds es fs : List (Deed A)) (ts : List (Turn A)) (t : Turn A) → Plays n ds ts es → Adds n es (t .call) (t .answer) fs → Plays n ds (ts ++ t ∷ []) fs

@@ -88,5 +88,6 @@ module _ {A : Type 0} (ds : List (Deed A)) (s : Lent A) (place : ℕ) (keys : Li
               (a .rest (a .after) 0 (subst (λ (x : List A). SplicePuts place (a .after) before x (drop i draws) (a .after) 0) (sym (drop-all i keys h)) (refl, refl))),
         );
         told = a .told;
+        room = a .room;
         unmoved = tt;
       }

@@ -1,7 +1,10 @@
 -- What a call with its answer adds to the deeds that built a list, and what a script of calls does.
 use Prim.Native.Nat.{ℕ, _+_}
 use mathlib.Core.Path.{_≡_}
+use mathlib.Core.Bool.{false}
 use mathlib.Core.List.{List, [], _∷_}
+use Rattle.std.specs.Options.{isSome}
+use Rattle.std.specs.Results.{isOk}
 use denote.Ref.{now}
 use Rattle.std.specs.declared.option.Option.{Option}
 use Rattle.std.specs.declared.result.Result.{Result}
@@ -9,7 +12,7 @@ use Rattle.std.specs.declared.result.Result.the-variants.{Ok, Err}
 use Rattle.order.specs.declared.fault.SetFault.{SetFault}
 use Rattle.order.specs.Order.{At, Found, Given, InsertsAfter, InsertsAt, RemovesAt, RemovesKey}
 use Rattle.skip_list.specs.declared.call.Answer.{Answer}
-use Rattle.skip_list.specs.declared.call.Answer.the-variants.{Key, Place, Put, Spliced}
+use Rattle.skip_list.specs.declared.call.Answer.the-variants.{Key, Open, Place, Put, Spliced}
 use Rattle.skip_list.specs.declared.call.Call.{Call}
 use Rattle.skip_list.specs.declared.call.Call.the-variants.{IndexOf, InsertAfter, InsertHead, InsertIndex, KeyOf, RemoveIndex, RemoveKey, Splice}
 use Rattle.skip_list.specs.declared.call.Turn.{Turn}
@@ -42,8 +45,31 @@ Plays {A} n ds (t ∷ ts) es = (fs : List (Deed A)) × Adds n ds (t .call) (t .a
 abbrev pub called : {A : Type 0} → Turn A → Call A
 called t = t .call
 
+-- an answer that turns a call down, or finds nothing
+abbrev pub Refused : {A : Type 0} → Answer A → Type 0
+Refused Open = ⊥
+Refused (Put r) = isOk r ≡ false
+Refused (Spliced r) = isOk r ≡ false
+Refused (Place r) = isSome r ≡ false
+Refused (Key r) = isSome r ≡ false
+
 -- a list that the deeds ds built is, after the call, one that the deeds and the call built
 pub record Carries {A : Type 0} (ds : List (Deed A)) (s : Lent A) (c : Call A) (a : Answer A) (t : Lent A) : Type 0 where
   pub after : List (Deed A)
   pub adds : Adds (size s) ds c a after
   pub told : Told after t
+  pub room : size t ≡ size s
+  pub unmoved : Refused a → t ≡ s
+
+-- the same of a script of calls
+pub record Runs {A : Type 0} (ds : List (Deed A)) (s : Lent A) (ts : List (Turn A)) (t : Lent A) : Type 0 where
+  pub after : List (Deed A)
+  pub plays : Plays (size s) ds ts after
+  pub told : Told after t
+  pub room : size t ≡ size s
+
+-- a script on a new list: the deeds that its accepted calls did, and the list that obeys the law of those deeds
+pub record Played {A : Type 0} (ts : List (Turn A)) (t : Lent A) : Type 0 where
+  pub deeds : List (Deed A)
+  pub plays : Plays (size t) [] ts deeds
+  pub told : Told deeds t

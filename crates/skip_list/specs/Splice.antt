@@ -41,6 +41,7 @@ pub record SplicesTold {A : Type 0} (ds : List (Deed A)) (s : Lent A) (i : ℕ) 
   pub after : List (Deed A)
   pub adds : SpliceAdds (size s) ds i ks draws r after
   pub told : Told after t
+  pub room : size t ≡ size s
   pub unmoved : Unmoved r s t
 
 -- one key of a splice
