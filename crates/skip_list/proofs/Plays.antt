@@ -1,11 +1,12 @@
 -- Calls on a list that a history built, and scripts of them.
-use Prim.Native.Nat.{ℕ, _+_, _<_, _≤_}
+use Prim.Native.Nat.{ℕ, zero, suc, _+_, _<_}
 use mathlib.Core.Path.{_≡_, refl, sym, ap, subst, _∙_}
-use mathlib.Core.List.{List, [], _∷_, _++_}
+use mathlib.Core.List.{List, [], _∷_, _++_, map}
 use mathlib.Core.Bool.{false}
-use lib.ListN.{length}
+use lib.ListN.{length, getD, set, take}
 use Rattle.std.specs.Options.{isSome}
 use Rattle.std.specs.Results.{isOk}
+use Rattle.std.proofs.shelf.Lists.{take-more-set}
 use Rattle.std.proofs.shelf.Tests.{true≢false}
 use Rattle.std.specs.Holes.{inserted, removed}
 use Rattle.std.specs.declared.option.Option.{Option}
@@ -22,7 +23,7 @@ use Rattle.skip_list.specs.declared.call.Turn.{Turn}
 use Rattle.skip_list.specs.declared.lent.Lent.{Lent}
 use Rattle.skip_list.specs.History.{Deed, Told, ToldNext, afterAt, afterKey, afterPut, orderAfter, out, put}
 use Rattle.skip_list.specs.Lent.{kept, means, size}
-use Rattle.skip_list.specs.Play.{Adds, Carries, Plays, PutAfter}
+use Rattle.skip_list.specs.Play.{Adds, Carries, Plays, PutAfter, Runs, called}
 use Rattle.skip_list.specs.Splice.{SplicesTold, Unmoved, meant}
 
 module _ {A : Type 0} where
@@ -98,3 +99,21 @@ module _ {A : Type 0} where
   pub plays-more : (n : ℕ) (ds es fs : List (Deed A)) (ts : List (Turn A)) (t : Turn A) → Plays n ds ts es → Adds n es (t .call) (t .answer) fs → Plays n ds (ts ++ t ∷ []) fs
   plays-more n ds es fs [] t p a = (fs, subst (λ (x : List (Deed A)). Adds n x (t .call) (t .answer) fs) p a, refl)
   plays-more n ds es fs (u ∷ ts) t p a = (p .0, p .1, plays-more n (p .0) es fs ts t (p .2) a)
+
+  pub runs-more : (ds : List (Deed A)) (s u v : Lent A) (ts : List (Turn A)) (i : ℕ) (t : Turn A) → i < length ts → Runs ds s (take i ts) u →
+      ((es : List (Deed A)) → Told es u → Carries es u (t .call) (t .answer) v) → Runs ds s (take (i + 1) (set ts i t)) v
+  runs-more ds s u v ts i t lt r f =
+      let c = f (r .after) (r .told) in
+      record {
+        after = c .after;
+        plays = subst (λ (x : List (Turn A)). Plays (size s) ds x (c .after)) (sym (take-more-set ts i t lt))
+            (plays-more (size s) ds (r .after) (c .after) (take i ts) t (r .plays) (subst (λ (n : ℕ). Adds n (r .after) (t .call) (t .answer) (c .after)) (r .room) (c .adds)));
+        told = c .told;
+        room = c .room ∙ r .room;
+      }
+
+  -- an answer written beside its call leaves the calls
+  pub calls-stay : (ts : List (Turn A)) (i : ℕ) (t d : Turn A) → called t ≡ called (getD ts i d) → map called (set ts i t) ≡ map called ts
+  calls-stay [] i t d e = refl
+  calls-stay (x ∷ ts) zero t d e = ap (λ (c : Call A). c ∷ map called ts) e
+  calls-stay (x ∷ ts) (suc i) t d e = ap (λ (cs : List (Call A)). called x ∷ cs) (calls-stay ts i t d e)
