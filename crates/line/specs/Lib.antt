@@ -1,0 +1,4 @@
+pub mod Grammar
+pub mod Lines
+pub mod States
+pub mod Words
