@@ -1,5 +1,7 @@
-pub mod Parted
+pub mod Adding
 pub mod Held
-pub mod Says
+pub mod Lists
+pub mod Parted
 pub mod Said
+pub mod Says
 pub mod Walks

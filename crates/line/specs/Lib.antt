@@ -1,4 +1,9 @@
+pub mod Answers
+pub mod Draws
+pub mod Faults
 pub mod Grammar
 pub mod Lines
+pub mod Pages
+pub mod Printing
 pub mod States
 pub mod Words
