@@ -13,6 +13,7 @@ use crate::page::Page;
 use order::keys::TrainTag;
 
 // A list is the first `count` of its cells.
+#[derive(Drop)]
 pub(crate) enum Answer {
     Placed(u32),
     Sent {

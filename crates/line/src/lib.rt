@@ -1,6 +1,7 @@
 // The command line of the panel: a line is read as a command, and an answer is printed as a line.
 pub(crate) mod answer;
 pub mod command;
+pub mod console;
 pub mod draws;
 pub mod fault;
 mod field;

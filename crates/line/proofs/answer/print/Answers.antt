@@ -1,3 +1,4 @@
+-- The page begins at the front of the slice.
 use Prim.Native.Nat.{ℕ}
 use mathlib.Core.Path.{_≡_, sym, ap}
 use mathlib.Core.List.{List}

@@ -1,3 +1,4 @@
+-- No byte is a newline just where the search finds none.
 use mathlib.Core.Path.{_≡_, _∙_}
 use mathlib.Core.Bool.{true, false}
 use mathlib.Core.Logic.{⊎-elim}

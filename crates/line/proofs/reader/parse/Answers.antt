@@ -1,3 +1,4 @@
+-- The command read is the one that the line says.
 use mathlib.Core.Path.{sym, subst}
 use native.Mathlib.Omega.{arith}
 use borrow.Author.Tests.{ltb-false}

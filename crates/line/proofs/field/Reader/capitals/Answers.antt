@@ -1,3 +1,4 @@
+-- The capitals of a field are the bytes between its space and what is left.
 use Prim.Native.Nat.{_+_}
 use mathlib.Core.Path.{_≡_}
 use native.Mathlib.Omega.{arith}

@@ -1,3 +1,4 @@
+-- A field after its space.
 use Prim.Native.Nat.{_<_}
 use mathlib.Core.Path.{_≡_, _∙_}
 use native.Mathlib.Omega.{arith}

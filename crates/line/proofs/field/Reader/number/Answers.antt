@@ -1,3 +1,4 @@
+-- The number of a field is that of the state at its end.
 use mathlib.Core.Path.{ap, _∙_}
 use Rattle.line.specs.Lines.{numberOf, aNumber}
 use Rattle.line.proofs.field.Reader.number.Needs as need

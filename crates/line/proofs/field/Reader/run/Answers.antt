@@ -1,3 +1,4 @@
+-- One byte more of the word, and its end.
 use Prim.Native.Nat.{_<_}
 use mathlib.Core.Path.{_≡_, refl, sym, _∙_}
 use mathlib.Core.List.{[]}

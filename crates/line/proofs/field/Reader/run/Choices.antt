@@ -1,3 +1,4 @@
+-- The state that the word leads to, and what comes after the word, stay as the reader goes on.
 use mathlib.Core.Path.{_≡_}
 use lib.ListN.{length}
 use denote.Ref.{now}

@@ -1,3 +1,4 @@
+-- The last digit after the others.
 use Prim.Native.Nat.{_/_}
 use mathlib.Core.Path.{sym, subst}
 use native.Mathlib.Omega.{arith}

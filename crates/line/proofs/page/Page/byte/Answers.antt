@@ -1,3 +1,4 @@
+-- A byte at the end of what is written.
 use Prim.Native.Nat.{_+_, _<_}
 use mathlib.Core.Path.{refl, sym, _∙_}
 use native.Mathlib.Omega.{arith}

@@ -1,3 +1,4 @@
+-- The first number, and the others after their spaces.
 use mathlib.Core.Path.{sym, ap}
 use native.Mathlib.Omega.{arith}
 use borrow.Author.Tests.{ltb-false}

@@ -1,3 +1,4 @@
+-- Two writes, one after the other.
 use Rattle.line.proofs.Adding.{puts-more}
 use Rattle.line.proofs.page.Page.placed.Needs as need
 

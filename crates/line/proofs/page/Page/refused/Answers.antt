@@ -1,3 +1,4 @@
+-- Four writes, one after the other.
 use mathlib.Core.Path.{ap, _∙_}
 use Rattle.std.specs.Written.{decimal}
 use Rattle.line.proofs.Adding.{puts-as, puts-more}

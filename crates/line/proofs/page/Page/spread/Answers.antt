@@ -1,3 +1,4 @@
+-- One number after another, each after a space.
 use mathlib.Core.Path.{ap}
 use Rattle.std.proofs.shelf.Lists.{take-more, take-all}
 use Rattle.std.specs.Written.{decimal}

@@ -1,3 +1,4 @@
+-- So far the first numbers are written.
 use mathlib.Core.List.{map}
 use lib.ListN.{take}
 use Rattle.std.specs.Written.{decimal}

@@ -1,3 +1,4 @@
+-- One byte after another.
 use Rattle.std.proofs.shelf.Lists.{take-more, take-all}
 use Rattle.line.proofs.Adding.{puts-none, puts-more}
 use Rattle.line.proofs.page.Page.text.Needs as need

@@ -1,3 +1,4 @@
+-- So far the first bytes are written.
 use lib.ListN.{take}
 use Rattle.line.specs.Pages.{Puts}
 use Rattle.line.proofs.page.Page.text.Given as given
