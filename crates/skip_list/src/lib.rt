@@ -10,5 +10,5 @@ pub mod memory;
 pub mod play;
 pub mod report;
 mod reports;
-mod set;
+pub mod set;
 mod splice;

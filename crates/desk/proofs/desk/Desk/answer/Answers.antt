@@ -1,0 +1,11 @@
+use Rattle.desk.proofs.Told.{told}
+use Rattle.desk.proofs.desk.Desk.answer.Needs as need
+
+pub ghost-self : need.ghost-self
+ghost-self c = (∣ c .answer .ensures .ready (told (c .args .self .now .console) (c .args .self .now .prepared)) ∣₁, tt)
+
+pub returns : need.returns
+returns c =
+    record {
+        small = c .answer .ensures .small;
+        answers = λ h. c .answer .ensures .answers h (told (c .args .self .now .console) (c .args .self .now .prepared)) }
