@@ -11,7 +11,10 @@ pub struct Model<K> {
 
 impl<K: Key> Model<K> {
     pub fn new(heap: Global, room: usize) -> Model<K> {
-        Model { keys: Vec::new(heap), room }
+        Model {
+            keys: Vec::new(heap),
+            room,
+        }
     }
 
     pub fn place_of(&self, key: K) -> Option<usize> {
@@ -49,7 +52,11 @@ impl<K: Key> Model<K> {
     }
 
     pub fn remove_at(&mut self, place: usize) -> Option<K> {
-        if place < self.keys.len() { Some(self.keys.remove(place)) } else { None }
+        if place < self.keys.len() {
+            Some(self.keys.remove(place))
+        } else {
+            None
+        }
     }
 
     pub fn remove(&mut self, key: K) -> Option<usize> {

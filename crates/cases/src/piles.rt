@@ -55,11 +55,20 @@ fn limit_made_late(tally: &mut Tally) {
     let _ = push(&mut row, RuleNumber { value: 2 }, 0);
     let mut pile = Limit::new(Loan::new(&mut row), 1);
     tally.check("no less than the length", pile.capacity() == 2);
-    tally.check("full at once", refusal(push(&mut pile, RuleNumber { value: 3 }, 0)) == 4);
+    tally.check(
+        "full at once",
+        refusal(push(&mut pile, RuleNumber { value: 3 }, 0)) == 4,
+    );
     tally.check("one leaves", pile.remove_index(0).is_some());
     tally.check("the room stays", pile.capacity() == 2);
-    tally.check("one joins", refusal(push(&mut pile, RuleNumber { value: 3 }, 0)) == 0);
-    tally.check("and is the last", refusal(push(&mut pile, RuleNumber { value: 4 }, 0)) == 4);
+    tally.check(
+        "one joins",
+        refusal(push(&mut pile, RuleNumber { value: 3 }, 0)) == 0,
+    );
+    tally.check(
+        "and is the last",
+        refusal(push(&mut pile, RuleNumber { value: 4 }, 0)) == 4,
+    );
     let wide = Limit::new(Loan::new(&mut row), 99);
     tally.check("no more than the room below", wide.capacity() == 4);
 }

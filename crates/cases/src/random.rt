@@ -1,7 +1,7 @@
 // Long seeded runs of calls on a set and on the model side by side: equal answers, and the whole order equal after every call.
 use crate::model::Model;
-use crate::sample::Sample;
 use crate::sample::RuleNumberSample;
+use crate::sample::Sample;
 use crate::sample::TrainTagSample;
 use crate::sample::is_key;
 use crate::sample::refusal;
@@ -63,7 +63,12 @@ fn agree<K: Sample, S: OrderedSet<K>>(set: &mut S, model: &Model<K>) -> bool {
 }
 
 // One insertion on both sides: whether they answered alike.
-fn insertion<K: Sample, S: OrderedSet<K>>(set: &mut S, model: &mut Model<K>, dice: &mut Dice, keys: u16) -> Result<bool, AllocError> {
+fn insertion<K: Sample, S: OrderedSet<K>>(
+    set: &mut S,
+    model: &mut Model<K>,
+    dice: &mut Dice,
+    keys: u16,
+) -> Result<bool, AllocError> {
     let key = K::sample((dice.roll() % 65536) as u16 % keys.max(1));
     let draw = dice.roll();
     let place = dice.below(set.length().saturating_add(2));
@@ -78,7 +83,12 @@ fn insertion<K: Sample, S: OrderedSet<K>>(set: &mut S, model: &mut Model<K>, dic
 }
 
 // One removal on both sides: whether they answered alike.
-fn removal<K: Sample, S: OrderedSet<K>>(set: &mut S, model: &mut Model<K>, dice: &mut Dice, keys: u16) -> bool {
+fn removal<K: Sample, S: OrderedSet<K>>(
+    set: &mut S,
+    model: &mut Model<K>,
+    dice: &mut Dice,
+    keys: u16,
+) -> bool {
     if dice.below(2) == 0 {
         let key = K::sample((dice.roll() % 65536) as u16 % keys.max(1));
         let place = set.remove_key(key);
@@ -96,7 +106,13 @@ fn removal<K: Sample, S: OrderedSet<K>>(set: &mut S, model: &mut Model<K>, dice:
 }
 
 // A run of `steps` calls over `keys` different keys; three of five are insertions.
-pub fn run<K: Sample, S: OrderedSet<K>>(rt: &LibcRuntime, tally: &mut Tally, set: &mut S, keys: u16, steps: u32) -> Result<(), AllocError> {
+pub fn run<K: Sample, S: OrderedSet<K>>(
+    rt: &LibcRuntime,
+    tally: &mut Tally,
+    set: &mut S,
+    keys: u16,
+    steps: u32,
+) -> Result<(), AllocError> {
     let mut model = Model::new(rt.alloc(), set.capacity() as usize);
     let mut dice = Dice::new(steps.wrapping_mul(77).wrapping_add(keys as u32));
     for _ in 0..steps {
@@ -120,7 +136,10 @@ fn over_numbers(rt: &LibcRuntime, tally: &mut Tally) -> Result<(), AllocError> {
 }
 
 fn over_tags(rt: &LibcRuntime, tally: &mut Tally) -> Result<(), AllocError> {
-    let mut tags = [TrainTag { class: b'A', number: 0 }; 60];
+    let mut tags = [TrainTag {
+        class: b'A',
+        number: 0,
+    }; 60];
     let mut row = PlainRow::new(&mut tags);
     run::<TrainTag, _>(rt, tally, &mut row, 70, 2000)
 }

@@ -19,7 +19,10 @@ pub impl Sample for RuleNumber as RuleNumberSample {
 // Tags that differ now in the class, now in the number.
 pub impl Sample for TrainTag as TrainTagSample {
     fn sample(n: u16) -> TrainTag {
-        TrainTag { class: b'A' + (n % 26) as u8, number: n / 26 }
+        TrainTag {
+            class: b'A' + (n % 26) as u8,
+            number: n / 26,
+        }
     }
 }
 

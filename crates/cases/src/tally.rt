@@ -13,7 +13,11 @@ pub struct Tally {
 
 impl Tally {
     pub fn new() -> Tally {
-        Tally { held: 0, failed: 0, name: [b' '; LONGEST] }
+        Tally {
+            held: 0,
+            failed: 0,
+            name: [b' '; LONGEST],
+        }
     }
 
     pub fn check(&mut self, what: &str, holds: bool) {

@@ -17,25 +17,29 @@ use Rattle.skip_list.specs.Lent.{Sound, means}
 
 abbrev pub listed : {A : Type 0} → (A → List ℕ) → (List ℕ → ℕ) → Ghosts (SkipList A) A
 listed identity hashed = record {
-    meaning = λ s. means (s .lent);
-    sound = λ s. Sound (s .lent) identity hashed;
-    body = λ s. s }
+  meaning = λ s. means (s .lent);
+  sound = λ s. Sound (s .lent) identity hashed;
+  body = λ s. s;
+}
 
 module _ {A S : Type 0} (g : Ghosts S A) where
   abbrev pub lent : Ghosts (Loan S) A
   lent = record {
-      meaning = λ s. g .meaning (now (s .set));
-      sound = λ s. g .sound (now (s .set));
-      body = λ s. record { set = record { ptr = s .set .ptr; name = s .set .name; now = g .body (now (s .set)) } } }
+    meaning = λ s. g .meaning (now (s .set));
+    sound = λ s. g .sound (now (s .set));
+    body = λ s. record { set = record { ptr = s .set .ptr; name = s .set .name; now = g .body (now (s .set)) } };
+  }
 
   abbrev pub recalled : Ghosts (LastPlace A S) A
   recalled = record {
-      meaning = λ s. g .meaning (s .below);
-      sound = Reliable (g .sound) (g .meaning);
-      body = forgotten (g .body) }
+    meaning = λ s. g .meaning (s .below);
+    sound = Reliable (g .sound) (g .meaning);
+    body = forgotten (g .body);
+  }
 
   abbrev pub limited : Ghosts (Limit S) A
   limited = record {
-      meaning = λ s. capped (g .meaning (s .below)) (s .most);
-      sound = Within (g .sound) (g .meaning);
-      body = through (g .body) }
+    meaning = λ s. capped (g .meaning (s .below)) (s .most);
+    sound = Within (g .sound) (g .meaning);
+    body = through (g .body);
+  }

@@ -32,9 +32,14 @@ pub struct Desk<'r, 'n, 'y, 't> {
 
 impl<'r, 'n, 'y, 't> Desk<'r, 'n, 'y, 't> {
     // Over two row lists, which begin anew: no rule, no train, and a session begins.
-    pub fn new(numbers: &'r mut SkipList<'n, RuleNumber>, tags: &'y mut SkipList<'t, TrainTag>) -> Desk<'r, 'n, 'y, 't>
+    pub fn new(
+        numbers: &'r mut SkipList<'n, RuleNumber>,
+        tags: &'y mut SkipList<'t, TrainTag>,
+    ) -> Desk<'r, 'n, 'y, 't>
         ensures begins { λ r. ⌜ Session (new-desk (size (now (numbers .entry) .lent)) (size (now (tags .entry) .lent))) [] [] (stand «the-rules» «the-yard» (r .console)) ⌝ }
     {
-        Desk { console: Console::new(rules_pile(numbers), yard_pile(tags)) }
+        Desk {
+            console: Console::new(rules_pile(numbers), yard_pile(tags)),
+        }
     }
 }
