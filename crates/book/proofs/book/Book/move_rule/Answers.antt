@@ -22,9 +22,9 @@ returns-in-Break-insert-index g c =
     (key (c .args .number)) (c .index-of .result) (c .remove-key .result) (c .args .place) (c .index-of .ensures .finds h) some (omega (arith, c .length .ensures .counts sound1)) (c .remove-key .ensures .removes sound1)
     _ (c .length .ensures .lawful sound1) (c .in-Break-insert-index .ensures tt .inserts sound2) in
     record {
-      moves = λ h. absurd (never h);
-      sound = λ h. absurd (never h);
-      kept = λ h. absurd (never h);
+      moves = λ h. elim (never h) [ ];
+      sound = λ h. c .insert-index .ensures .sound (c .remove-key .ensures .sound (c .index-of .ensures .sound h));
+      kept = λ h. elim (never h) [ ];
     }
 
 pub returns : need.returns
