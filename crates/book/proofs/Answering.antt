@@ -1,6 +1,6 @@
 -- What an answer says of the call that got it, and that a refused call leads nowhere.
 use Prim.Native.Nat.{ℕ, _+_}
-use mathlib.Core.Path.{_≡_, refl, sym, ap, subst, _∙_}
+use mathlib.Core.Path.{_≡_, ap, subst, _∙_}
 use mathlib.Core.List.{List, [], _∷_, _++_, append-nil}
 use native.Mathlib.Omega.{arith}
 use lib.ListN.{length, take, drop}
@@ -9,7 +9,7 @@ use Rattle.std.proofs.shelf.Sums.{folded-push}
 use Rattle.std.specs.declared.option.Option.{Option}
 use Rattle.std.specs.declared.result.Result.{Result}
 use Rattle.std.specs.declared.result.Result.the-variants.{Ok, Err}
-use Rattle.order.specs.Order.{At, Meaning, ordered}
+use Rattle.order.specs.Order.{At, ordered}
 use Rattle.order.specs.declared.keys.TrainTag.{TrainTag}
 use Rattle.book.specs.declared.call.Answer.the-variants.{Decided, Sent, Refused}
 use Rattle.book.specs.declared.call.Call.{Call}
@@ -20,7 +20,7 @@ use Rattle.book.specs.Books.{AddAnswer, DecideAnswer, DropAnswer, MoveAnswer}
 use Rattle.book.specs.Calls.{Faulted, Obeys, decided, placed, sent, turn}
 use Rattle.book.specs.Law.{before}
 use Rattle.book.specs.Pages.{Decides, Pages, approach}
-use Rattle.book.specs.Runs.{after, built, gathered, joined, joining, leaving, left, reached}
+use Rattle.book.specs.Runs.{after, built, joined, joining, leaving, left, reached}
 use Rattle.book.specs.Yards.{Board, Departs, JoinAnswer, SendAnswer}
 use Rattle.book.proofs.Following.{gathered-push, joins-refused}
 

@@ -1,18 +1,16 @@
 -- A set of letters, one more letter at a time.
-use Prim.Native.Nat.{ℕ, _+_, _-_, _<_, _≤_}
-use mathlib.Core.Path.{_≡_, refl, sym, ap, subst, _∙_}
+use Prim.Native.Nat.{ℕ, _+_, _-_, _<_}
+use mathlib.Core.Path.{_≡_, sym, ap, subst, _∙_}
 use mathlib.Core.List.{List}
 use mathlib.Core.Bool.{Bool, true, false}
 use mathlib.Core.Logic.{_⊎_, inl, inr, ⊎-elim}
 use native.Mathlib.Omega.{arith}
 use lib.ListN.{length, getD, set, replicate}
 use Rattle.std.proofs.shelf.Lists.{getD-default, getD-set-same, getD-set-other, getD-replicate, getD-past, length-replicate}
+use Rattle.std.proofs.shelf.Tests.{cases-eq}
 use Rattle.order.specs.Order.{At, Stands}
 use Rattle.book.specs.Rules.{Holds, Letter}
 use Rattle.book.proofs.Places.{at-same, below-or-at, below-or-past}
-
-same-or-not : (a b : ℕ) → (a ≡ b) ⊎ (a ≡ b → ⊥)
-same-or-not a b = grind arith
 
 pub holds-none : (size c : ℕ) → Holds (replicate size false) c → ⊥
 holds-none size c (low, held) =
@@ -27,13 +25,13 @@ holds-new s c len letter = (letter .0, getD-set-same s (c - 65) true false (omeg
 pub holds-on : (s : List Bool) (n c : ℕ) → length s ≡ 26 → Letter n → Holds s c → Holds (set s (n - 65) true) c
 holds-on s n c len letter held =
     ⊎-elim (λ e. (held .0, ap (λ (k : ℕ). getD (set s (n - 65) true) k false) e ∙ getD-set-same s (n - 65) true false (omega arith)))
-    (λ ne. (held .0, getD-set-other s (n - 65) (c - 65) true false ne ∙ held .1)) (same-or-not (c - 65) (n - 65))
+    (λ ne. (held .0, getD-set-other s (n - 65) (c - 65) true false ne ∙ held .1)) (cases-eq (c - 65) (n - 65))
 
 -- what is held was put in just now, or held before
 pub holds-by : (s : List Bool) (n c : ℕ) → Letter n → Holds (set s (n - 65) true) c → (c ≡ n) ⊎ Holds s c
 holds-by s n c letter held =
     ⊎-elim (λ e. inl (omega arith))
-    (λ ne. inr (held .0, sym (getD-set-other s (n - 65) (c - 65) true false ne) ∙ held .1)) (same-or-not (c - 65) (n - 65))
+    (λ ne. inr (held .0, sym (getD-set-other s (n - 65) (c - 65) true false ne) ∙ held .1)) (cases-eq (c - 65) (n - 65))
 
 pub at-item : (xs : List ℕ) (i : ℕ) → i < length xs → At xs i (getD xs i 0)
 at-item xs i lt = (lt, getD-default xs i (getD xs i 0) 0 lt)

@@ -1,8 +1,8 @@
 -- From the law of each turn: a train leaves at the first send that finds it a rule.
 use Prim.Native.Nat.{ℕ, _+_, _<_, _≤_}
-use mathlib.Core.Path.{_≡_, refl, sym, ap, subst, _∙_}
+use mathlib.Core.Path.{_≡_, sym, ap, subst, _∙_}
 use mathlib.Core.List.{List, [], _∷_, _++_}
-use mathlib.Core.Logic.{_⊎_, ⊎-elim}
+use mathlib.Core.Logic.{⊎-elim}
 use native.Mathlib.Omega.{arith}
 use lib.ListN.{length, getD, take, drop}
 use Rattle.std.proofs.shelf.Lists.{take-append-drop, take-take, take-more, getD-append-left, getD-drop, length-append, length-drop}
@@ -12,7 +12,6 @@ use Rattle.std.specs.declared.result.Result.{Result}
 use Rattle.std.specs.declared.result.Result.the-variants.{Ok, Err}
 use Rattle.order.specs.Order.{At}
 use Rattle.book.specs.declared.fault.BookFault.{BookFault}
-use Rattle.book.specs.declared.fault.BookFault.the-variants.{BadRule, BadNumber, NoRule, BadTurnout, BadTrain, NoTrain, Rules, Yard}
 use Rattle.order.specs.declared.keys.TrainTag.{TrainTag}
 use Rattle.book.specs.declared.call.Call.the-variants.{Send}
 use Rattle.book.specs.declared.call.Answer.{Answer}

@@ -1,13 +1,12 @@
 -- One more turn: the book built and the trains that wait follow, and the law goes on.
-use Prim.Native.Nat.{ℕ, zero, suc, _+_, _-_, _<_, _≤_}
+use Prim.Native.Nat.{ℕ}
 use mathlib.Core.Path.{_≡_, refl, sym, ap, subst, _∙_}
 use mathlib.Core.List.{List, [], _∷_, _++_, append-nil, append-assoc}
-use mathlib.Core.Bool.{Bool, true, false, cond}
-use mathlib.Core.Logic.{_⊎_, ⊎-elim}
+use mathlib.Core.Bool.{false}
+use mathlib.Core.Logic.{⊎-elim}
 use native.Mathlib.Omega.{arith}
-use lib.ListN.{length, getD, take, drop}
-use Rattle.std.specs.Holes.{inserted, removed}
-use Rattle.std.specs.Iters.{folded}
+use lib.ListN.{length, take, drop}
+use Rattle.std.specs.Holes.{inserted}
 use Rattle.std.proofs.shelf.Edits.{length-removed}
 use Rattle.std.proofs.shelf.Lists.{drop-at, getD-append-left, getD-push, length-push, take-append-le, take-at}
 use Rattle.std.proofs.shelf.Sums.{folded-push}
@@ -16,7 +15,7 @@ use Rattle.std.specs.declared.option.Option.the-variants.{Some, None}
 use Rattle.std.specs.declared.result.Result.{Result}
 use Rattle.std.specs.declared.result.Result.the-variants.{Ok, Err}
 use Rattle.order.proofs.Places.{apart-inserted, apart-removed}
-use Rattle.order.specs.Order.{At, Absent, Distinct, Meaning, ordered}
+use Rattle.order.specs.Order.{Distinct, Meaning, ordered}
 use Rattle.book.specs.declared.rule.Rule.{Rule}
 use Rattle.order.specs.declared.keys.RuleNumber.{RuleNumber}
 use Rattle.order.specs.declared.keys.TrainTag.{TrainTag}
@@ -30,7 +29,7 @@ use Rattle.book.specs.Books.{Adds, Answers, Drops, Moves}
 use Rattle.book.specs.Calls.{Carries, Obeys, decided, placed, sent, turn}
 use Rattle.book.specs.Law.{Follows, Obeyed}
 use Rattle.book.specs.Pages.{Pages, approach, key, reordered, rewritten}
-use Rattle.book.specs.Runs.{after, built, gathered, joined, joining, joins, leaving, left, reached, waiting}
+use Rattle.book.specs.Runs.{after, built, gathered, joining, joins, leaving, left, reached, waiting}
 use Rattle.book.specs.Yards.{Board, Joins, Sends}
 use Rattle.book.proofs.Leaving.{leave-is}
 use Rattle.book.proofs.Moving.{put-last, removed-absent}

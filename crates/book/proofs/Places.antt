@@ -1,13 +1,12 @@
 -- What stands at a place, which places below one more are passed, and what a table of records says.
 use Prim.Native.Nat.{ℕ, _+_, _<_, _≤_}
-use mathlib.Core.Path.{_≡_, refl, sym, ap, subst, _∙_, fun-ext}
+use mathlib.Core.Path.{_≡_, sym, ap, subst, _∙_, fun-ext}
 use mathlib.Core.Bool.{Bool, true, false, cond}
 use mathlib.Core.List.{List, [], _∷_}
-use mathlib.Core.Logic.{_⊎_, inl, inr, ⊎-elim}
+use mathlib.Core.Logic.{_⊎_, ⊎-elim}
 use native.Mathlib.Omega.{arith}
 use borrow.Author.Tests.{eq-eqb, ne-eqb}
-use lib.Dec.{eqb}
-use lib.ListN.{length, getD, drop, replicate, set}
+use lib.ListN.{length, drop, replicate, set}
 use Rattle.std.proofs.shelf.Lists.{getD-set-same, getD-set-other, getD-default, getD-past, getD-replicate, length-replicate}
 use Rattle.std.proofs.shelf.Tests.{cases-eq}
 use Rattle.std.specs.declared.option.Option.{Option}
@@ -56,16 +55,13 @@ none-recorded size = fun-ext (λ n.
     ⊎-elim (λ lt. getD-replicate size n None None lt)
     (λ le. getD-past (replicate size None) n None (simp length-replicate le)) (below-or-past n size))
 
-same-or-other : (k n : ℕ) → (k ≡ n) ⊎ (k ≡ n → ⊥)
-same-or-other k n = cases-eq k n
-
 pub recorded-set : (records : List (Option Rule)) (n : ℕ) (entry : Option Rule) → n < length records
     → recorded (set records n entry) ≡ with-rule n entry (recorded records)
 recorded-set records n entry lt = fun-ext (λ k.
     ⊎-elim
     (λ e. ap (recorded (set records n entry)) e ∙ getD-set-same records n entry None lt ∙ sym (ap (λ (b : Bool). cond b entry (recorded records k)) (eq-eqb k n e)))
     (λ ne. getD-set-other records n k entry None ne ∙ sym (ap (λ (b : Bool). cond b entry (recorded records k)) (ne-eqb k n ne)))
-    (same-or-other k n))
+    (cases-eq k n))
 
 -- a list is what stands at its front, and the rest
 pub at-front : {A : Type 0} (xs : List A) (x : A) → At xs 0 x → xs ≡ x ∷ drop 1 xs

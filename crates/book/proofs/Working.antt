@@ -1,44 +1,36 @@
 -- The worked case: nothing turns the two rules down, one decision is all that there can be, and what it is.
-use Prim.Native.Nat.{ℕ, zero, suc, _+_, _<_, _≤_}
+use Prim.Native.Nat.{ℕ, zero, suc, _<_, _≤_}
 use mathlib.Core.Path.{_≡_, refl, sym, ap, subst, _∙_}
-use mathlib.Core.List.{List, [], _∷_, _++_}
-use mathlib.Core.Logic.{_⊎_, inl, inr, ⊎-elim}
+use mathlib.Core.List.{List, [], _∷_}
+use mathlib.Core.Logic.{⊎-elim}
 use native.Mathlib.Omega.{arith}
-use lib.Chars.{codes}
-use lib.ListN.{length, getD}
+use lib.ListN.{length}
 use Rattle.std.proofs.shelf.Edits.{getD-inserted-at, length-inserted, length-removed}
 use Rattle.std.specs.Holes.{inserted, removed}
 use Rattle.std.specs.declared.option.Option.{Option}
 use Rattle.std.specs.declared.option.Option.the-variants.{Some, None}
 use Rattle.std.specs.declared.result.Result.{Result}
 use Rattle.std.specs.declared.result.Result.the-variants.{Ok, Err}
-use Rattle.order.specs.Order.{At, Absent, Meaning, Refuses, Stands}
-use Rattle.order.specs.declared.fault.SetFault.{SetFault}
-use Rattle.order.specs.declared.fault.SetFault.the-variants.{Present, NoPredecessor, PastEnd, Full, Uneven}
+use Rattle.order.specs.Order.{Admits, At, Absent}
+use Rattle.order.specs.declared.fault.SetFault.the-variants.{PastEnd}
 use Rattle.order.specs.declared.keys.RuleNumber.{RuleNumber}
 use Rattle.book.specs.declared.approach.Approach.{Approach}
 use Rattle.book.specs.declared.fault.BookFault.{BookFault}
-use Rattle.book.specs.declared.fault.BookFault.the-variants.{BadNumber, NoRule, BadTurnout, BadTrain, Rules}
+use Rattle.book.specs.declared.fault.BookFault.the-variants.{Rules}
 use Rattle.book.specs.declared.rule.Rule.{Rule}
-use Rattle.book.specs.Books.{AddFault, Adds, Answers, DecideFault, MoveFault, Moves, added}
+use Rattle.book.specs.Books.{AddFault, Adds, Answers, Moves}
 use Rattle.book.specs.Pages.{Decides, Matches, NoneBelow, Pages, approach, key}
-use Rattle.book.specs.Rules.{Covers}
 use Rattle.book.specs.Worked.{Builds, Four, Nine, NineThenFour, Vacant}
+use Rattle.book.proofs.Moving.{none-refuses}
 use Rattle.book.proofs.Places.{at-same, below-or-past}
 
-never-refused : (m : Meaning RuleNumber) (xs : List RuleNumber) (place n : ℕ) (e : SetFault)
-    → m .order ≡ xs → Absent xs (key n) → place ≤ length xs → length xs < m .room → Refuses m place (key n) e → ⊥
-never-refused m xs place n Present is absent within room (i, at) = absent i (subst (λ (ys : List RuleNumber). At ys i (key n)) is at)
-never-refused m xs place n NoPredecessor is absent within room b = b
-never-refused m xs place n PastEnd is absent within room (_, past) = let len = ap length is in omega arith
-never-refused m xs place n Full is absent within room (_, _, full) = let len = ap length is in omega arith
-never-refused m xs place n Uneven is absent within room b = b
-
 -- a number that stands nowhere goes in where there is room
-pub never-turned : (v : Pages) (xs : List RuleNumber) (place n : ℕ) (f : BookFault)
+never-turned : (v : Pages) (xs : List RuleNumber) (place n : ℕ) (f : BookFault)
     → v .numbers .order ≡ xs → n ≤ 255 → Absent xs (key n) → place ≤ length xs → length xs < v .numbers .room → AddFault n place f v → ⊥
 never-turned v xs place n f is low absent within room reasons =
-    ⊎-elim (λ high. omega (arith, high .1)) (λ set. never-refused (v .numbers) xs place n (set .0) is absent within room (set .3)) reasons
+    let len = ap length is in
+    let admits : Admits (v .numbers) place (key n) = (subst (λ (ys : List RuleNumber). Absent ys (key n)) (sym is) absent, omega arith, omega arith) in
+    ⊎-elim (λ high. omega (arith, high .1)) (λ set. none-refuses (v .numbers) place (key n) (set .0) admits (set .3)) reasons
 
 absent-nowhere : (k : RuleNumber) → Absent [] k
 absent-nowhere k i (lt, is) = omega arith

@@ -1,8 +1,8 @@
 -- The worked case: rule 9 for turnout 12, classes E and F, route 7, and behind it rule 4 for turnouts 10 to 14, classes F
 -- and G, route 3, in any empty book with room for both.
-use Prim.Native.Nat.{ℕ, _≤_}
+use Prim.Native.Nat.{_≤_}
 use mathlib.Core.Path.{_≡_}
-use mathlib.Core.List.{List, [], _∷_}
+use mathlib.Core.List.{[], _∷_}
 use lib.Chars.{codes}
 use Rattle.std.specs.declared.option.Option.the-variants.{Some}
 use Rattle.std.specs.declared.result.Result.{Result}

@@ -10,7 +10,7 @@
 --     Empty s a           the order of the set a is empty; Fresh s a, and it is sound
 use Prim.Native.Nat.{ℕ, _≤_}
 use mathlib.Core.Path.{_≡_}
-use mathlib.Core.List.{List, []}
+use mathlib.Core.List.{[]}
 use mathlib.Core.Logic.{_⊎_}
 use lib.ListN.{length}
 use Rattle.std.specs.Holes.{inserted, removed}
@@ -27,7 +27,6 @@ use Rattle.book.specs.declared.fault.BookFault.{BookFault}
 use Rattle.book.specs.declared.fault.BookFault.the-variants.{BadTurnout, BadTrain, NoTrain, Yard}
 use Rattle.book.specs.declared.fault.YardFault.{YardFault}
 use Rattle.book.specs.declared.panel.Panel.{Panel}
-use Rattle.book.specs.Rules.{Letter}
 use Rattle.book.specs.Pages.{Pages, Decides, approach}
 use Rattle.book.specs.Books.{Turnout, pages, bound}
 

@@ -1,6 +1,5 @@
 // Which numbers of a book have a rule, in order.
 ghost use Prim.Native.Nat.{_≤_};
-ghost use mathlib.Core.Path.{_≡_};
 ghost use Rattle.book.specs.Books.{Across, Kept, Lasts, Lists};
 use crate::book::Book;
 use crate::book::rule_of;

@@ -1,6 +1,6 @@
 // Calls on a panel one after another, each with its answer, and the law that every history of them obeys.
 ghost use mathlib.Core.Path.{_≡_};
-ghost use mathlib.Core.List.{List, [], _∷_, _++_, map};
+ghost use mathlib.Core.List.{[], _∷_, map};
 ghost use mathlib.Core.Bool.{false};
 ghost use Rattle.book.specs.Calls.{Carries, accepted, called, decided, placed, sent, turn};
 ghost use Rattle.book.specs.Law.{GoesOn, RouteLaw};

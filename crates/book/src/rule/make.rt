@@ -1,5 +1,5 @@
 // Making a rule, and asking it.
-ghost use Prim.Native.Nat.{ℕ, _-_, _<_, _≤_};
+ghost use Prim.Native.Nat.{_-_, _<_};
 ghost use mathlib.Core.Path.{_≡_};
 ghost use mathlib.Core.Bool.{true, false};
 ghost use Rattle.book.specs.Rules.{Covers, Makes, ClassSet};

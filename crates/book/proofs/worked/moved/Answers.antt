@@ -1,5 +1,5 @@
 -- Where a rule of two can be moved to.
-use mathlib.Core.Path.{_≡_, refl, ap, _∙_}
+use mathlib.Core.Path.{_≡_, ap, _∙_}
 use Rattle.book.specs.Faults.{faultNumber}
 use Rattle.book.proofs.Working.{case-moved, case-refused}
 use Rattle.book.proofs.worked.moved.Needs as need

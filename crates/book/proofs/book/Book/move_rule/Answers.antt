@@ -1,14 +1,13 @@
 -- A number that came out always goes in again.
-use borrow.Author.Needs.{needs}
 use native.Mathlib.Omega.{arith}
 use Prim.Native.Nat.{_<_}
 use mathlib.Core.Path.{_≡_, refl, ap, _∙_}
-use mathlib.Core.Bool.{Bool, true, not}
+use mathlib.Core.Bool.{true, not}
 use lib.ListN.{length}
 use Rattle.std.specs.Options.{isSome}
 use Rattle.std.proofs.shelf.Tests.{true≢false}
 use Rattle.book.specs.Pages.{key}
-use Rattle.book.proofs.Moving.{moved, move-within, move-accepted}
+use Rattle.book.proofs.Moving.{moved, move-accepted}
 use Rattle.book.proofs.book.Book.move_rule.Needs as need
 
 pub returns-in-Break-insert-index : need.returns-in-Break-insert-index

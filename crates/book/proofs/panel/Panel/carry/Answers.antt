@@ -1,5 +1,5 @@
 -- Each call does what its name says, and leaves the other set.
-use mathlib.Core.Path.{_≡_, refl, sym, ap, subst}
+use mathlib.Core.Path.{sym, ap, subst}
 use Rattle.book.specs.declared.book.Book.{Book}
 use Rattle.book.specs.Books.{pages}
 use Rattle.book.specs.Calls.{Carries}

@@ -3,7 +3,7 @@ use native.Mathlib.Omega.{arith}
 use Prim.Native.Nat.{ℕ, zero, suc, _+_}
 use mathlib.Core.Path.{_≡_, refl, sym, ap, _∙_}
 use mathlib.Core.List.{List, [], _∷_, _++_, map, append-nil, append-assoc}
-use lib.ListN.{length, getD, take, set}
+use lib.ListN.{getD, take, set}
 use Rattle.std.proofs.shelf.Lists.{take-all, take-more-set}
 use Rattle.book.specs.declared.call.Call.{Call}
 use Rattle.book.specs.declared.call.Turn.{Turn}

@@ -1,5 +1,4 @@
 -- The turns passed have made the history longer, and every call stands as it was.
-use Prim.Native.Nat.{ℕ}
 use mathlib.Core.Path.{_≡_}
 use mathlib.Core.List.{List, _++_, map}
 use lib.ListN.{take}

@@ -1,9 +1,8 @@
 -- A class past Z is in no set.
 use native.Mathlib.Omega.{arith}
-use Prim.Native.Nat.{ℕ, _-_, _≤_}
+use Prim.Native.Nat.{ℕ, _-_}
 use mathlib.Core.Path.{_≡_, sym, _∙_}
 use mathlib.Core.Bool.{false}
-use lib.ListN.{length}
 use Rattle.std.proofs.shelf.Lists.{getD-past}
 use Rattle.book.proofs.rule.Rule.matches.Needs as need
 use Rattle.book.proofs.rule.Rule.matches.Needs.{then-class-lt65·by·then-class-lt65, then-class-lt65·by·else-class-lt65·then-class-gt90, then-class-lt65·by·else-class-lt65·else-class-gt90·then-turnout-self, then-class-lt65·by·else-class-lt65·else-class-gt90·else-turnout-self·then-turnout-self-2}
