@@ -1,7 +1,8 @@
--- A call under its own name, and the results that are refusals.
+-- A call under its own name, and the answers after which all stays.
 use Prim.Native.Nat.{ℕ}
 use mathlib.Core.Path.{_≡_, refl, sym, ap, subst, _∙_}
-use mathlib.Core.Bool.{false}
+use mathlib.Core.Bool.{true, false}
+use Rattle.std.proofs.shelf.Tests.{true≢false}
 use Rattle.std.specs.Results.{isOk}
 use Rattle.std.specs.declared.option.Option.{Option}
 use Rattle.std.specs.declared.result.Result.{Result}
@@ -11,21 +12,17 @@ use Rattle.book.specs.declared.fault.BookFault.{BookFault}
 use Rattle.book.specs.declared.call.Call.{Call}
 use Rattle.book.specs.declared.call.Answer.{Answer}
 use Rattle.book.specs.Yards.{Board}
-use Rattle.book.specs.Calls.{Carries, accepted, placed, sent}
+use Rattle.book.specs.Calls.{Carries, placed, sent, still}
 
 pub as-call : (v w : Board) (call call′ : Call) (a : Answer) → call ≡ call′ → Carries call′ a v w → Carries call a v w
 as-call v w call call′ a e carried = subst (λ (x : Call). Carries x a v w) (sym e) carried
 
-accepted-placed : (r : Result ℕ BookFault) → accepted (placed r) ≡ isOk r
-accepted-placed (Ok p) = refl
-accepted-placed (Err f) = refl
+still-placed : (r : Result ℕ BookFault) → still (placed r) ≡ true → isOk r ≡ false
+still-placed (Ok p) e = absurd (true≢false (sym e))
+still-placed (Err f) e = refl
 
-accepted-sent : (r : Result (Option (TrainTag × ℕ × ℕ)) BookFault) → accepted (sent r) ≡ isOk r
-accepted-sent (Ok d) = refl
-accepted-sent (Err f) = refl
+pub stays-placed : (a : Answer) (r : Result ℕ BookFault) → a ≡ placed r → still a ≡ true → isOk r ≡ false
+stays-placed a r e stays = still-placed r (ap still (sym e) ∙ stays)
 
-pub refused-placed : (a : Answer) (r : Result ℕ BookFault) → a ≡ placed r → accepted a ≡ false → isOk r ≡ false
-refused-placed a r e turned = sym (accepted-placed r) ∙ ap accepted (sym e) ∙ turned
-
-pub refused-sent : (a : Answer) (r : Result (Option (TrainTag × ℕ × ℕ)) BookFault) → a ≡ sent r → accepted a ≡ false → isOk r ≡ false
-refused-sent a r e turned = sym (accepted-sent r) ∙ ap accepted (sym e) ∙ turned
+pub stays-sent : (a : Answer) (r : Result (Option (TrainTag × ℕ × ℕ)) BookFault) → a ≡ sent r → still a ≡ true → still (sent r) ≡ true
+stays-sent a r e stays = ap still (sym e) ∙ stays

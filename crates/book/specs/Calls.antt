@@ -6,6 +6,7 @@ use Prim.Native.Nat.{ℕ}
 use mathlib.Core.Path.{_≡_}
 use mathlib.Core.Bool.{Bool, true, false}
 use Rattle.std.specs.declared.option.Option.{Option}
+use Rattle.std.specs.declared.option.Option.the-variants.{Some, None}
 use Rattle.std.specs.declared.result.Result.{Result}
 use Rattle.std.specs.declared.result.Result.the-variants.{Ok, Err}
 use Rattle.order.specs.declared.keys.TrainTag.{TrainTag}
@@ -30,6 +31,14 @@ accepted (Placed p) = true
 accepted (Decided d) = true
 accepted (Sent d) = true
 accepted (Refused f) = false
+
+-- a refusal, a decision, and a send that lets no train go: what a panel holds stays
+abbrev pub still : Answer → Bool
+still (Placed p) = false
+still (Decided d) = true
+still (Sent (Some d)) = false
+still (Sent None) = true
+still (Refused f) = true
 
 -- the results of the calls, as answers
 abbrev pub placed : Result ℕ BookFault → Answer

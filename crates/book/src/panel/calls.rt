@@ -1,10 +1,11 @@
 // The calls of a panel: those of its book, and join and send.
 ghost use Prim.Native.Nat.{_≤_};
 ghost use mathlib.Core.Path.{_≡_};
-ghost use mathlib.Core.Bool.{false};
+ghost use mathlib.Core.Bool.{true, false};
 ghost use Rattle.std.specs.Results.{isOk};
 ghost use Rattle.book.specs.Pages.{approach};
 ghost use Rattle.book.specs.Books.{Across, Adds, Answers, Drops, Kept, Lasts, Lists, Moves};
+ghost use Rattle.book.specs.Calls.{sent, still};
 ghost use Rattle.book.specs.Yards.{Joins, Over, OverSet, Pushes, Remains, Sends, Unmoved};
 use crate::approach::Approach;
 use crate::fault::BookFault;
@@ -106,7 +107,7 @@ impl<R: OrderedSet<RuleNumber>, Y: OrderedSet<TrainTag>> Panel<R, Y> {
     pub fn send(&mut self, turnout: u16) -> Result<Option<(TrainTag, u16, u8)>, BookFault>
         ensures sends { λ r. ⌜ Over R·OrderedSet Y·OrderedSet (now (self .entry)) (now (self .exit)) (Sends turnout r) ⌝ }
         ensures sound { λ _. ⌜ Remains R·OrderedSet Y·OrderedSet (now (self .entry)) (now (self .exit)) ⌝ }
-        ensures kept { λ r. ⌜ (isOk r ≡ false → Unmoved R·OrderedSet Y·OrderedSet (now (self .entry)) (now (self .exit))) ⌝ }
+        ensures kept { λ r. ⌜ (still (sent r) ≡ true → Unmoved R·OrderedSet Y·OrderedSet (now (self .entry)) (now (self .exit))) ⌝ }
     {
         if turnout < 1 || turnout > 2000 {
             return Err(BookFault::BadTurnout);

@@ -1,8 +1,8 @@
 // Calls on a panel one after another, each with its answer, and the law that every history of them obeys.
 ghost use mathlib.Core.Path.{_≡_};
 ghost use mathlib.Core.List.{[], _∷_, map};
-ghost use mathlib.Core.Bool.{false};
-ghost use Rattle.book.specs.Calls.{Carries, accepted, called, decided, placed, sent, turn};
+ghost use mathlib.Core.Bool.{true};
+ghost use Rattle.book.specs.Calls.{Carries, called, decided, placed, sent, still, turn};
 ghost use Rattle.book.specs.Law.{GoesOn, RouteLaw};
 ghost use Rattle.book.specs.Yards.{Fresh, Over, Remains, Sound, Unmoved, board, opens};
 use crate::call::Answer;
@@ -49,7 +49,7 @@ impl<R: OrderedSet<RuleNumber>, Y: OrderedSet<TrainTag>> Panel<R, Y> {
     fn carry(&mut self, call: Call) -> Answer
         ensures answers { λ r. ⌜ Over R·OrderedSet Y·OrderedSet (now (self .entry)) (now (self .exit)) (Carries call r) ⌝ }
         ensures sound { λ _. ⌜ Remains R·OrderedSet Y·OrderedSet (now (self .entry)) (now (self .exit)) ⌝ }
-        ensures kept { λ r. ⌜ (Sound R·OrderedSet Y·OrderedSet (now (self .entry)) → accepted r ≡ false → Unmoved R·OrderedSet Y·OrderedSet (now (self .entry)) (now (self .exit))) ⌝ }
+        ensures kept { λ r. ⌜ (Sound R·OrderedSet Y·OrderedSet (now (self .entry)) → still r ≡ true → Unmoved R·OrderedSet Y·OrderedSet (now (self .entry)) (now (self .exit))) ⌝ }
     {
         match call {
             Call::Add {
@@ -74,7 +74,7 @@ impl<R: OrderedSet<RuleNumber>, Y: OrderedSet<TrainTag>> Panel<R, Y> {
     pub fn step(&mut self, call: Call) -> Answer
         ensures answers { λ r. ⌜ Over R·OrderedSet Y·OrderedSet (now (self .entry)) (now (self .exit)) (Carries call r) ⌝ }
         ensures sound { λ _. ⌜ Remains R·OrderedSet Y·OrderedSet (now (self .entry)) (now (self .exit)) ⌝ }
-        ensures kept { λ r. ⌜ (Sound R·OrderedSet Y·OrderedSet (now (self .entry)) → accepted r ≡ false → Unmoved R·OrderedSet Y·OrderedSet (now (self .entry)) (now (self .exit))) ⌝ }
+        ensures kept { λ r. ⌜ (Sound R·OrderedSet Y·OrderedSet (now (self .entry)) → still r ≡ true → Unmoved R·OrderedSet Y·OrderedSet (now (self .entry)) (now (self .exit))) ⌝ }
         ensures law { λ r. ⌜ Over R·OrderedSet Y·OrderedSet (now (self .entry)) (now (self .exit)) (GoesOn (turn call r ∷ [])) ⌝ }
     {
         self.carry(call)
