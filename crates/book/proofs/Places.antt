@@ -1,7 +1,7 @@
--- What stands at a place, which places below one more are passed, and what a table of records says.
+-- What stands at a place, and what a table of records says.
 use Prim.Native.Nat.{ℕ, _+_, _<_, _≤_}
-use mathlib.Core.Path.{_≡_, sym, ap, subst, _∙_, fun-ext}
-use mathlib.Core.Bool.{Bool, true, false, cond}
+use mathlib.Core.Path.{_≡_, sym, ap, _∙_, fun-ext}
+use mathlib.Core.Bool.{Bool, cond}
 use mathlib.Core.List.{List, [], _∷_}
 use mathlib.Core.Logic.{_⊎_, ⊎-elim}
 use native.Mathlib.Omega.{arith}
@@ -10,13 +10,11 @@ use lib.ListN.{length, drop, replicate, set}
 use Rattle.std.proofs.shelf.Lists.{getD-set-same, getD-set-other, getD-default, getD-past, getD-replicate, length-replicate}
 use Rattle.std.proofs.shelf.Tests.{cases-eq}
 use Rattle.std.specs.declared.option.Option.{Option}
-use Rattle.std.specs.declared.option.Option.the-variants.{Some, None}
+use Rattle.std.specs.declared.option.Option.the-variants.{None}
 use Rattle.order.specs.Order.{At, Meaning}
 use Rattle.order.specs.declared.keys.RuleNumber.{RuleNumber}
-use Rattle.book.specs.declared.approach.Approach.{Approach}
 use Rattle.book.specs.declared.rule.Rule.{Rule}
-use Rattle.book.specs.Pages.{Matches, NoneBelow, Pages, recorded, with-rule}
-use Rattle.book.specs.Rules.{Covers}
+use Rattle.book.specs.Pages.{Pages, recorded, with-rule}
 
 -- one key stands at a place
 pub at-same : {A : Type 0} (xs : List A) (i : ℕ) (x y : A) → At xs i x → At xs i y → x ≡ y
@@ -27,27 +25,6 @@ below-or-at i p h = grind arith
 
 pub below-or-past : (i p : ℕ) → (i < p) ⊎ (p ≤ i)
 below-or-past i p = grind arith
-
--- the place p is passed when the key there does not match
-pub none-more : (v : Pages) (a : Approach) (p : ℕ) (n : RuleNumber)
-    → NoneBelow v a p → At (v .numbers .order) p n → (Matches v a (n .value) → ⊥) → NoneBelow v a (p + 1)
-none-more v a p n below here unmatched i k lt at m =
-    ⊎-elim (λ l. below i k l at m)
-    (λ e. let q = at-same (v .numbers .order) p k n (subst (λ (j : ℕ). At (v .numbers .order) j k) e at) here in
-    unmatched (subst (λ (x : RuleNumber). Matches v a (x .value)) q m))
-    (below-or-at i p lt)
-
--- a number does not match when its rule does not cover, or when it has none
-pub unmatched-rule : (v : Pages) (a : Approach) (n : ℕ) (rule : Rule) (b : Bool)
-    → v .rules n ≡ Some rule → (Covers rule a → b ≡ true) → b ≡ false → Matches v a n → ⊥
-unmatched-rule v a n rule b has covers left (other, is, m) =
-    let e : other ≡ rule = cc in
-    let m' = subst (λ (x : Rule). Covers x a) e m in
-    let y = covers m' in
-    let z : _≡_ {A = ℕ} 0 1 = cc in omega arith
-
-pub unmatched-none : (v : Pages) (a : Approach) (n : ℕ) → v .rules n ≡ None → Matches v a n → ⊥
-unmatched-none v a n has (other, is, m) = let z : _≡_ {A = ℕ} 0 1 = cc in omega arith
 
 -- a table of records that were never written, and one with a record written anew
 pub none-recorded : (size : ℕ) → recorded (replicate size None) ≡ (λ (_ : ℕ). None)

@@ -1,4 +1,4 @@
--- The worked case: nothing turns the two rules down, one decision is all that there can be, and what it is.
+-- The worked case: nothing turns the two rules down, and what they decide.
 use Prim.Native.Nat.{ℕ, zero, suc, _<_, _≤_}
 use mathlib.Core.Path.{_≡_, refl, sym, ap, subst, _∙_}
 use mathlib.Core.List.{List, [], _∷_}
@@ -8,21 +8,20 @@ use lib.ListN.{length}
 use Rattle.std.proofs.shelf.Edits.{getD-inserted-at, length-inserted, length-removed}
 use Rattle.std.specs.Holes.{inserted, removed}
 use Rattle.std.specs.declared.option.Option.{Option}
-use Rattle.std.specs.declared.option.Option.the-variants.{Some, None}
+use Rattle.std.specs.declared.option.Option.the-variants.{Some}
 use Rattle.std.specs.declared.result.Result.{Result}
 use Rattle.std.specs.declared.result.Result.the-variants.{Ok, Err}
 use Rattle.order.specs.Order.{Admits, At, Absent}
 use Rattle.order.specs.declared.fault.SetFault.the-variants.{PastEnd}
 use Rattle.order.specs.declared.keys.RuleNumber.{RuleNumber}
-use Rattle.book.specs.declared.approach.Approach.{Approach}
 use Rattle.book.specs.declared.fault.BookFault.{BookFault}
 use Rattle.book.specs.declared.fault.BookFault.the-variants.{Rules}
 use Rattle.book.specs.declared.rule.Rule.{Rule}
 use Rattle.book.specs.Books.{AddFault, Adds, Answers, Moves}
-use Rattle.book.specs.Pages.{Decides, Matches, NoneBelow, Pages, approach, key}
+use Rattle.book.specs.Pages.{Decides, Pages, approach, key}
 use Rattle.book.specs.Worked.{Builds, Four, Nine, NineThenFour, Vacant}
+use Rattle.book.proofs.Deciding.{decides-once}
 use Rattle.book.proofs.Moving.{none-refuses}
-use Rattle.book.proofs.Places.{at-same, below-or-past}
 
 -- a number that stands nowhere goes in where there is room
 never-turned : (v : Pages) (xs : List RuleNumber) (place n : ℕ) (f : BookFault)
@@ -70,26 +69,6 @@ pub not-vacant : (r : Result (Unit {0}) BookFault) (v w : Pages) → (Vacant v �
 not-vacant (Ok u) v w no-room = λ vacant. absurd (no-room vacant)
 not-vacant (Err f) v w no-room = no-room
 
--- an approach is decided in one way only
-module _ (v : Pages) (a : Approach) where
-  not-below : (p q : ℕ) (n : ℕ) → At (v .numbers .order) p (key n) → Matches v a n → NoneBelow v a q → q ≤ p
-  not-below p q n at m none = ⊎-elim (λ lt. absurd (none p (key n) lt at m)) (λ le. le) (below-or-past p q)
-
-  pub decides-once : (d e : Option (ℕ × ℕ)) → Decides v a d → Decides v a e → d ≡ e
-  decides-once (Some (n, r)) (Some (m, s)) (p, rule, at, has, covers, route, none) (q, rule′, at′, has′, covers′, route′, none′) =
-      let le = not-below p q n at (rule, has, covers) none′ in
-      let ge = not-below q p m at′ (rule′, has′, covers′) none in
-      let same : p ≡ q = omega arith in
-      let k = at-same (v .numbers .order) q (key n) (key m) (subst (λ (i : ℕ). At (v .numbers .order) i (key n)) same at) at′ in
-      let number : n ≡ m = ap (λ (x : RuleNumber). x .value) k in
-      let found : Some rule ≡ Some rule′ = sym has ∙ ap (v .rules) number ∙ has′ in
-      let one-rule : rule ≡ rule′ = cc in
-      let routes : r ≡ s = sym route ∙ ap (λ (x : Rule). x .route) one-rule ∙ route′ in
-      cc
-  decides-once (Some d) None (p, rule, at, has, covers, route, none) none′ = absurd (none′ p (key (d .0)) (at .0) at (rule, has, covers))
-  decides-once None (Some e) none (q, rule, at, has, covers, route, none′) = absurd (none q (key (e .0)) (at .0) at (rule, has, covers))
-  decides-once None None none none′ = refl
-
 -- with 9 before 4, turnout 12 and class F are decided by 9 and 7
 nine-decides : (v : Pages) → NineThenFour v → Decides v (approach 12 70) (Some (9, 7))
 nine-decides v two =
@@ -129,9 +108,3 @@ case-refused v w x p f two (answer, (i, at, left)) (fault, _) =
     ⊎-elim (λ high. absurd (omega (arith, high .1)))
     (⊎-elim (λ gone. absurd (gone .2 1 (subst (λ (u : Pages). At (u .numbers .order) 1 (key 9)) (sym left) (moved-at (v .numbers .order) i 1 (key 9) (at .0) (answer .2)))))
     (λ past. past .0)) fault
-
-pub case-not-past : (v w x : Pages) (p q : ℕ) → NineThenFour v → Moves 9 1 (Ok p) v w → Moves 9 2 (Ok q) w x → ⊥
-case-not-past v w x p q two (answer, (i, at, left)) (other, _) =
-    let len = ap length (two .in-order) in
-    let all = ap (λ (u : Pages). length (u .numbers .order)) left ∙ length-moved (v .numbers .order) i 1 (key 9) (at .0) (answer .2) in
-    omega (arith, other .2)

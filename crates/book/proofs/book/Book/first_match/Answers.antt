@@ -7,7 +7,8 @@ use Rattle.order.specs.Order.{Meaning, At}
 use Rattle.order.specs.declared.keys.RuleNumber.{RuleNumber}
 use Rattle.book.specs.Books.{pages}
 use Rattle.book.specs.Pages.{recorded}
-use Rattle.book.proofs.Places.{none-more, same-pages, unmatched-rule, unmatched-none}
+use Rattle.book.proofs.Deciding.{none-more, unmatched-none, unmatched-rule}
+use Rattle.book.proofs.Places.{same-pages}
 use Rattle.book.proofs.book.Book.first_match.Needs as need
 use Rattle.book.proofs.book.Book.first_match.Needs.{in-Some·in-Some-rule-of·else-matches, in-Some·in-rest-rule-of, in-rest}
 
