@@ -1,8 +1,8 @@
 // The chains of slots: how a row is found, put in and taken out.
-ghost use Prim.Native.Nat.{ℕ, _+_, _%_, _^_, _<_, _≤_};
+ghost use Prim.Native.Nat.{ℕ, _+_, _^_, _<_, _≤_};
 ghost use mathlib.Core.Path.{_≡_};
 ghost use mathlib.Core.List.{List, [], _∷_};
-ghost use lib.ListN.{length, getD, set};
+ghost use lib.ListN.{length, getD};
 ghost use Rattle.index.specs.Index.{Index, Indexed, Leads, Row, Run, Used, spot, tally};
 use order::key::HashKey;
 use order::key::Key;

@@ -1,11 +1,12 @@
-use Prim.Native.Nat.{ℕ, zero, suc, _+_, _<_, _≤_}
+-- What one level of links says at a split, and what a write leaves of it.
+use Prim.Native.Nat.{ℕ, _+_, _<_}
 use mathlib.Core.Path.{_≡_, refl, sym, ap, subst, _∙_}
 use mathlib.Core.Logic.{_≢_, _⊎_, inl, inr}
 use mathlib.Core.Bool.{Bool, true, false, cond}
-use mathlib.Core.List.{List, [], _∷_, _++_}
-use native.Mathlib.Nat.{add-assoc, add-comm}
+use mathlib.Core.List.{List, [], _∷_}
+use native.Mathlib.Nat.{add-assoc}
 use native.Mathlib.Omega.{arith}
-use lib.ListN.{length, getD, set, length-set}
+use lib.ListN.{length, set, length-set}
 use lib.Seq.{getD-set-same, getD-set-other}
 use Rattle.links.specs.declared.Link.{Link}
 use Rattle.links.specs.Chain.{plus, nearest, Each, Distinct, Away, Toward, Right, Joins, at, Half, Sound, Fresh}
@@ -102,9 +103,6 @@ nearest-apart p size xs ys s = nearest-each p (λ x. Each (λ y. y ≢ x) ys) xs
 pub nearest-below : (p : ℕ → Bool) (size : ℕ) (xs ys : List ℕ) → 0 < size → Half size xs ys → nearest p xs .row < size
 nearest-below p size xs ys z h = nearest-each p (λ x. x < size) xs z
     (each-map (λ r. (0 < r) × (r < size) × Each (λ y. y ≢ r) ys) (λ r. r < size) (λ r t. t .1) xs (h .0))
-
-nearest-fresh : (p : ℕ → Bool) (n : ℕ) (xs : List ℕ) → 0 < n → Each (λ r. r ≢ n) xs → nearest p xs .row ≢ n
-nearest-fresh p n xs z e = nearest-each p (λ x. x ≢ n) xs (omega arith) e
 
 -- one direction of a level, one link of it turned: what is behind the split stays right, whatever comes in before it
 turned-toward : (p : ℕ → Bool) (nx : List Link) (k v : Link) (behind before new : List ℕ) → nearest p behind ≡ k → k .row < length nx →

@@ -1,13 +1,12 @@
 -- Climbing from one level to the next: along the links of a level to the nearest row that passes a narrower test.
-use Prim.Native.Nat.{ℕ, zero, suc, _+_, _<_, _≤_}
+use Prim.Native.Nat.{ℕ, _+_, _<_, _≤_}
 use mathlib.Core.Path.{_≡_, refl, sym, ap, subst, _∙_}
 use mathlib.Core.Logic.{_≢_, _⊎_, inl, inr}
-use mathlib.Core.Bool.{Bool, true, false, cond}
-use mathlib.Core.List.{List, [], _∷_, _++_}
+use mathlib.Core.Bool.{Bool, true, false}
+use mathlib.Core.List.{List, [], _∷_}
 use native.Mathlib.Omega.{arith}
 use lib.ListN.{length, getD}
 use Rattle.links.specs.declared.Link.{Link}
-use lib.Dec.{ltb}
 use borrow.Author.Tests.{ltb-true, lt-ltb, le-ltb}
 use Rattle.links.specs.Chain.{plus, nearest, Each, Away, at, Within, reach, Leads}
 use Rattle.links.proofs.Chains.{link-eq, plus-plus, hit, miss, known, not-both, nearest-each, each-map}

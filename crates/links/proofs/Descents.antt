@@ -1,16 +1,16 @@
 -- Down from the head's top level to a split of the order: on each level, the last row behind the split.
-use Prim.Native.Nat.{ℕ, zero, suc, _+_, _-_, _<_, _≤_}
+use Prim.Native.Nat.{ℕ, _+_, _-_, _<_, _≤_}
 use mathlib.Core.Path.{_≡_, refl, sym, ap, subst, _∙_}
-use mathlib.Core.Logic.{_≢_, _⊎_, inl, inr}
-use mathlib.Core.Bool.{Bool, true, false}
+use mathlib.Core.Logic.{inl, inr}
+use mathlib.Core.Bool.{Bool}
 use mathlib.Core.List.{List, [], _∷_}
 use native.Mathlib.Omega.{arith}
-use borrow.Author.Tests.{lt-ltb, ltb-true, ltb-false}
+use borrow.Author.Tests.{ltb-true, ltb-false}
 use lib.Dec.{ltb}
-use lib.ListN.{length, getD}
+use lib.ListN.{length}
 use Rattle.links.specs.declared.Link.{Link}
 use Rattle.links.specs.Chain.{plus, nearest, Each, Toward, at, Within, reach, Stop, Nears}
-use Rattle.links.proofs.Chains.{link-eq, plus-plus, hit, miss, known, not-both, each-map}
+use Rattle.links.proofs.Chains.{link-eq, plus-plus, hit, miss, known}
 use Rattle.links.proofs.Climbs.{nearest-long, Narrower}
 
 plus-to : (k g : Link) (m : ℕ) → k ≡ g → m ≡ 0 → k ≡ plus m g

@@ -1,20 +1,20 @@
 -- A change of the order from the top level down: t levels are left to do, where the split has us before it; the others have vs.
-use Prim.Native.Nat.{ℕ, zero, suc, _+_, _-_, _<_, _≤_}
+use Prim.Native.Nat.{ℕ, _+_, _-_, _<_, _≤_}
 use mathlib.Core.Path.{_≡_, refl, sym, ap, subst, _∙_}
-use mathlib.Core.Logic.{_≢_, _⊎_, inl, inr}
-use mathlib.Core.List.{List, [], _∷_}
+use mathlib.Core.Logic.{_≢_, inl, inr}
+use mathlib.Core.List.{List, _∷_}
 use native.Mathlib.Omega.{arith}
 use native.Mathlib.Nat.{eq-or-lt-of-le}
 use lib.ListN.{length, getD}
 use Rattle.links.specs.declared.Link.{Link}
 use Rattle.links.specs.declared.Row.{Row}
-use Rattle.links.specs.declared.Way.the-variants.{Ahead, Back}
+use Rattle.links.specs.declared.Way.the-variants.{Ahead}
 use Rattle.links.specs.Cells.{levels, view}
 use Rattle.links.specs.Chain.{limit, plus, nearest, Each, reach, at, Sound, Fresh, Stop, Nears}
 use Rattle.links.specs.Ring.{Level, Only, Onto, Sides, Tall, Ring, Place, first}
-use mathlib.Core.Bool.{Bool, true, false}
+use mathlib.Core.Bool.{Bool, true}
 use borrow.Author.Tests.{lt-ltb}
-use Rattle.links.proofs.Chains.{link-eq, plus-plus, hit, miss, known}
+use Rattle.links.proofs.Chains.{link-eq, hit, miss, known}
 use Rattle.links.proofs.Climbs.{nearest-long, narrower}
 use Rattle.links.proofs.Inserts.{level-kept, within, sound-in, sound-out, fresh-out}
 use Rattle.links.proofs.Descents.{spans, stop-head, stop-nearest, stop-lower}
@@ -180,23 +180,6 @@ onto-low a n pre over xs ys h lt =
 pub leaves-row : (a₀ a : List Row) (l n : ℕ) (pre over : Link) (xs ys : List ℕ) → Onto a l n pre over xs ys → l ≡ 0 → levels a ≡ levels a₀ → Ring a₀ xs (n ∷ ys) → over .row ≡ n
 leaves-row a₀ a l n pre over xs ys o z e r =
     onto-low a n pre over xs ys (subst (λ k. Onto a k n pre over xs ys) z o) (subst (λ x. 0 < getD x n 0) (sym e) (r .high-ys .0 .0))
-
--- the same from the lowest level up
-pub rising-over : (a : List Row) (l n : ℕ) (pre next over : Link) (xs ys : List ℕ) → Sides a l n pre next xs ys → Level a l xs ys → over ≡ at (view Ahead l a) (pre .row) →
-    Sides a l n pre (record { row = over .row; count = (over .count + 1) - pre .count }) xs ys × (over .count + 1 < limit) × (pre .count ≤ over .count + 1)
-unfolding Level
-rising-over a l n pre next over xs ys s h o =
-    let p = reach (levels a) l in
-    let f = at (view Ahead l a) in
-    let b = nearest-long p xs in
-    let g = nearest-long p ys in
-    let q : over ≡ plus (pre .count - 1) (nearest p ys) = o ∙ ap (λ (x : Link). f (x .row)) (s .pre-is) ∙ spans p f ys xs (h .0 .1) ∙ ap (λ (x : Link). plus (x .count - 1) (nearest p ys)) (sym (s .pre-is)) in
-    let c = ap (λ (x : Link). x .count) q in
-    let k = ap (λ (x : Link). x .count) (s .pre-is) in (
-      record { sound = s .sound; fresh = s .fresh; few = s .few; pre-is = s .pre-is; suc-is = link-eq _ _ (ap (λ (x : Link). x .row) q) (omega (arith, c, k, b .0)) },
-      omega (arith, c, k, b .1, g .1, s .few),
-      omega (arith, c, k, b .0),
-    )
 
 pub rising-onto : (a : List Row) (l n : ℕ) (pre next over : Link) (xs ys : List ℕ) → Sides a l n pre next xs ys → Level a l xs (n ∷ ys) → over ≡ at (view Ahead l a) (pre .row) → Onto a l n pre over xs ys
 rising-onto a l n pre next over xs ys s h o = record { sound = sound-in (length (levels a)) n xs ys (s .sound) (s .fresh); right = h; pre-is = s .pre-is; over-is = o }

@@ -1,20 +1,17 @@
 -- A row that gets its level and comes in at a place.
-use Prim.Native.Nat.{ℕ, max, zero, suc, _+_, _-_, _<_, _≤_}
+use Prim.Native.Nat.{ℕ, max, zero, suc, _+_, _<_, _≤_}
 use mathlib.Core.Path.{_≡_, refl, sym, ap, subst, _∙_}
 use mathlib.Core.Logic.{_≢_}
 use mathlib.Core.List.{List, [], _∷_, _++_}
 use native.Mathlib.Omega.{arith}
-use native.Mathlib.Numerals.{sub-one}
 use lib.ListN.{length, getD, set, take, drop, length-set, length-append, length-drop}
 use lib.Seq.{getD-set-same, getD-set-other}
 use Rattle.std.proofs.shelf.Lists.{length-take-le}
 use Rattle.links.specs.declared.Row.{Row}
-use Rattle.links.specs.declared.Way.the-variants.{Ahead}
-use Rattle.links.specs.Cells.{levels, view}
-use Rattle.links.specs.Chain.{Each, Half, Fresh, at}
-use Rattle.links.specs.Ring.{Tall, Ring, Place, Enters, Leveled, Holds, order, turned, first, walk}
+use Rattle.links.specs.Cells.{levels}
+use Rattle.links.specs.Chain.{Each, Half}
+use Rattle.links.specs.Ring.{Ring, Place, Enters, Leveled, Holds, order, turned, first}
 use Rattle.links.proofs.Chains.{each-map}
-use Rattle.links.proofs.Heads.{length-levels}
 use Rattle.links.proofs.Levels.{ring-leveled, Rounds, level-alone}
 use Rattle.links.proofs.Orders.{length-order, length-here, ring-at, ring-whole, holds-from}
 
@@ -22,19 +19,6 @@ each-at : (P : ℕ → Type 0) (i : ℕ) (os zs : List ℕ) → Each P os → Ea
 each-at P zero os zs e z = (z, e)
 each-at P (suc i) [] zs e z = (z, tt)
 each-at P (suc i) (o ∷ os) zs e z = each-at P i os (o ∷ zs) (e .1) (e .0, z)
-
-first-turned : (os : List ℕ) (i : ℕ) (zs : List ℕ) → i < length os → first (turned (take (suc i) os) zs) ≡ getD os i 0
-first-turned [] i zs lt = absurd (omega arith)
-first-turned (o ∷ os) zero zs lt = refl
-first-turned (o ∷ os) (suc i) zs lt = first-turned os i (o ∷ zs) (omega arith)
-
--- the row before a place
-pub first-before : (os : List ℕ) (i r : ℕ) → i ≢ 0 → i ≤ length os → r ≡ getD os (i - 1) 0 → r ≡ first (turned (take i os) [])
-first-before os zero r ne le e = absurd (ne refl)
-first-before os (suc i) r ne le e = e ∙ ap (λ k. getD os k 0) (sub-one (suc i)) ∙ sym (first-turned os i [] (omega arith))
-
-pub first-none : (os : List ℕ) (i : ℕ) → i ≡ 0 → 0 ≡ first (turned (take i os) [])
-first-none os i z = subst (λ k. 0 ≡ first (turned (take k os) [])) (sym z) refl
 
 no-zero : (size : ℕ) (xs ys : List ℕ) → Half size xs ys → Each (λ r. r ≢ 0) xs
 no-zero size xs ys h = each-map (λ r. (0 < r) × (r < size) × Each (λ y. y ≢ r) ys) (λ r. r ≢ 0) (λ r t. omega (arith, t .0)) xs (h .0)
@@ -83,23 +67,6 @@ entered a d n m i r v q e g =
     (omega (arith, length-append (take i (order a n)) (r ∷ drop i (order a n)), length-take-le i (order a n) (omega (arith, e .place)), length-drop i (order a n), e .place))
     (omega (arith, e .room))
     (ring-whole d (take i (order a n)) (r ∷ drop i (order a n)) g)
-
--- an empty order
-pub order-none : (a : List Row) (n : ℕ) → n ≡ 0 → order a n ≡ []
-unfolding order
-order-none a n z = ap (λ k. walk (at (view Ahead 0 a)) k 0) z
-
-pub enters-first : (h : Row) (rows : List Row) (n r v : ℕ) → Holds (h ∷ rows) n → n ≡ 0 → r ≢ 0 → r ≤ length rows → v ≢ 0 → v ≤ 16 → Enters (h ∷ rows) n 0 r v
-enters-first h rows n r v held z ne le vne high = record {
-  holds = held;
-  place = omega arith;
-  room = omega arith;
-  row-low = omega arith;
-  row-high = omega (arith, length-levels (h ∷ rows));
-  absent = subst (λ os. Each (λ x. x ≢ r) os) (sym (order-none (h ∷ rows) n z)) tt;
-  level-low = omega arith;
-  level-high = high;
-}
 
 pub enters-count : (a : List Row) (n i r v : ℕ) → Enters a n i r v → i + 1 ≡ length (turned (take i (order a n)) []) + 1
 enters-count a n i r v e = omega (arith, length-order a n, length-here (order a n) i (omega (arith, e .place, length-order a n)))

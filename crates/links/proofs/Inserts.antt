@@ -1,21 +1,19 @@
 -- The whole insertion: the levels below l have the new row, the others not yet.
-use Prim.Native.Nat.{ℕ, zero, suc, _+_, _<_, _≤_}
+use Prim.Native.Nat.{ℕ, _+_, _<_, _≤_}
 use mathlib.Core.Path.{_≡_, refl, sym, ap, subst, _∙_}
-use mathlib.Core.Logic.{_≢_, _⊎_, inl, inr}
-use mathlib.Core.Bool.{Bool, true, false}
+use mathlib.Core.Logic.{_≢_, inl, inr}
 use mathlib.Core.List.{List, [], _∷_}
 use native.Mathlib.Omega.{arith}
 use native.Mathlib.Nat.{eq-or-lt-of-le}
 use borrow.Author.Tests.{lt-ltb, le-ltb}
-use lib.ListN.{length, getD, set}
+use lib.ListN.{length, getD}
 use Rattle.links.specs.declared.Link.{Link}
 use Rattle.links.specs.declared.Row.{Row}
-use Rattle.links.specs.declared.Way.{Way}
 use Rattle.links.specs.declared.Way.the-variants.{Ahead, Back}
 use Rattle.links.specs.Cells.{levels, view}
-use Rattle.links.specs.Chain.{limit, plus, nearest, Each, Distinct, Away, Toward, Right, reach, at, Sound, Half, Fresh, Within, Leads}
+use Rattle.links.specs.Chain.{limit, nearest, Each, Toward, Right, reach, at, Sound, Half, Fresh, Within, Leads}
 use Rattle.links.specs.Ring.{Level, Only, Sides, Tall, Ring, Place, first}
-use Rattle.links.proofs.Chains.{hit, miss, each-map, each-both}
+use Rattle.links.proofs.Chains.{miss, each-map, each-both}
 
 -- the levels below l have vs before the split, the others still us
 pub record Midway (a₀ a : List Row) (l n : ℕ) (pre next : Link) (xs ys us vs : List ℕ) : Type 0 where
@@ -32,30 +30,9 @@ level-kept a b l m xs ys o ne h = (
   subst (λ x. Right (reach (levels b) m) (at x) ys xs) (sym (o .other Back m ne)) (subst (λ x. Right (reach x m) (at (view Back m a)) ys xs) (sym (o .levels-same)) (h .1)),
 )
 
--- at level 0 every row is met
-first-is : (ls : List ℕ) (xs : List ℕ) → Each (Tall ls) xs → record { row = first xs; count = 1 } ≡ nearest (reach ls 0) xs
-first-is ls [] h = refl
-first-is ls (r ∷ xs) h = sym (hit (reach ls 0) r xs (lt-ltb 0 (getD ls r 0) (h .0 .0)))
-
 pub first-leads : (ls : List ℕ) (f : ℕ → Link) (near xs : List ℕ) → Each (Tall ls) xs → Toward (reach ls 0) f near xs → f (first xs) ≡ nearest (reach ls 0) near
 first-leads ls f near [] h t = t
 first-leads ls f near (r ∷ xs) h t = t .0 (lt-ltb 0 (getD ls r 0) (h .0 .0))
-
-pub midway-starts : (a : List Row) (after n : ℕ) (next : Link) (xs ys : List ℕ) → Place a after n xs ys → next ≡ at (view Ahead 0 a) after →
-    Midway a a 0 n (record { row = after; count = 1 }) next xs ys ys (n ∷ ys)
-unfolding Level
-midway-starts a after n next xs ys p e = record {
-  levels-same = refl;
-  sides = record {
-    sound = p .ring .sound;
-    fresh = p .fresh;
-    few = p .few;
-    pre-is = ap (λ r. record { row = r; count = 1 }) (p .after-is) ∙ first-is (levels a) xs (p .ring .high-xs);
-    suc-is = e ∙ ap (λ r. at (view Ahead 0 a) r) (p .after-is) ∙ first-leads (levels a) (at (view Ahead 0 a)) ys xs (p .ring .high-xs) (p .ring .right 0 (p .ring .head-tall .0) .0 .1);
-  };
-  done = (λ m lt. absurd (omega arith));
-  left = (λ m _ lt. p .ring .right m lt);
-}
 
 pub within : (size : ℕ) (xs ys : List ℕ) → Half size xs ys → Each (Within size) xs
 within size xs ys h = each-map (λ r. (0 < r) × (r < size) × Each (λ y. y ≢ r) ys) (Within size) (λ r t. (t .0, t .1)) xs (h .0)
@@ -70,25 +47,6 @@ leads-back a b l n pre next xs ys vs s e h = (
   omega (arith, s .few),
   subst (λ x. pre ≡ nearest (reach x l) xs) (sym e) (s .pre-is),
 )
-
-leads-on : (a b : List Row) (l n : ℕ) (pre next : Link) (xs ys : List ℕ) → Sides a l n pre next xs ys → levels b ≡ levels a →
-    Away (reach (levels b) l) (at (view Ahead l b)) ys → Leads (levels b) (view Ahead l b) l ys next
-leads-on a b l n pre next xs ys s e w = (
-  w,
-  subst (λ x. Each (Within (length x)) ys) (sym e) (within _ ys xs (s .sound .1)),
-  omega (arith, s .few),
-  subst (λ x. next ≡ nearest (reach x l) ys) (sym e) (s .suc-is),
-)
-
-pub leads-ahead : (a b : List Row) (l n : ℕ) (pre next : Link) (xs ys : List ℕ) → Sides a l n pre next xs ys → levels b ≡ levels a → Level b l xs (n ∷ ys) →
-    Leads (levels b) (view Ahead l b) l ys next
-unfolding Level
-leads-ahead a b l n pre next xs ys s e h = leads-on a b l n pre next xs ys s e (h .0 .0 .1)
-
-pub leads-past : (a b : List Row) (l n : ℕ) (pre next : Link) (xs ys : List ℕ) → Sides a l n pre next xs ys → levels b ≡ levels a → Level b l xs ys →
-    Leads (levels b) (view Ahead l b) l ys next
-unfolding Level
-leads-past a b l n pre next xs ys s e h = leads-on a b l n pre next xs ys s e (h .0 .0)
 
 -- level l once the row is threaded into it, or out of it
 pub threaded : (a₀ a b : List Row) (l n : ℕ) (pre next : Link) (xs ys us vs : List ℕ) → Midway a₀ a l n pre next xs ys us vs → l < getD (levels a₀) 0 0 →
@@ -152,26 +110,6 @@ midway-ends a₀ a top after n pre next xs ys le p m =
       right = (λ l lt. m .done l (omega (arith, ap (λ x. getD x 0 0) e)));
     }
 
--- removal: row n, which stands in the order, goes out
-pub leaving-starts : (a : List Row) (n : ℕ) (pre next : Link) (xs ys : List ℕ) → Ring a xs (n ∷ ys) → length xs + length ys + 2 < limit →
-    pre ≡ at (view Back 0 a) n → next ≡ at (view Ahead 0 a) n → Midway a a 0 n pre next xs ys (n ∷ ys) ys
-unfolding Level
-leaving-starts a n pre next xs ys r few e f =
-    let up = lt-ltb 0 (getD (levels a) n 0) (r .high-ys .0 .0) in
-    let h = r .right 0 (r .head-tall .0) in
-    record {
-      levels-same = refl;
-      sides = record {
-        sound = sound-out (length (levels a)) n xs ys (r .sound);
-        fresh = fresh-out (length (levels a)) n xs ys (r .sound);
-        few = few;
-        pre-is = e ∙ h .1 .1 .0 up;
-        suc-is = f ∙ h .0 .0 .0 up;
-      };
-      done = (λ m lt. absurd (omega arith));
-      left = (λ m _ lt. r .right m lt);
-    }
-
 pub leaving-ends : (a₀ a : List Row) (l n : ℕ) (pre next : Link) (xs ys : List ℕ) → getD (levels a₀) 0 0 ≤ l → Ring a₀ xs (n ∷ ys) → Midway a₀ a l n pre next xs ys (n ∷ ys) ys →
     Ring a xs ys
 leaving-ends a₀ a top n pre next xs ys le r m =
@@ -187,20 +125,6 @@ leaving-ends a₀ a top n pre next xs ys le r m =
 -- what lies ahead is read off the link over the split
 abbrev pub Rising : (a₀ a : List Row) (l n : ℕ) (pre : Link) (xs ys us vs : List ℕ) → Type 0
 Rising a₀ a l n pre xs ys us vs = Midway a₀ a l n pre (nearest (reach (levels a) l) ys) xs ys us vs
-
-pub rising-starts : (a : List Row) (after n : ℕ) (xs ys : List ℕ) → Place a after n xs ys → Rising a a 0 n (record { row = after; count = 1 }) xs ys ys (n ∷ ys)
-rising-starts a after n xs ys p = record {
-  levels-same = refl;
-  sides = record {
-    sound = p .ring .sound;
-    fresh = p .fresh;
-    few = p .few;
-    pre-is = ap (λ r. record { row = r; count = 1 }) (p .after-is) ∙ first-is (levels a) xs (p .ring .high-xs);
-    suc-is = refl;
-  };
-  done = (λ m lt. absurd (omega arith));
-  left = (λ m _ lt. p .ring .right m lt);
-}
 
 pub sinking-starts : (a : List Row) (n : ℕ) (pre : Link) (xs ys : List ℕ) → Ring a xs (n ∷ ys) → length xs + length ys + 2 < limit → pre ≡ at (view Back 0 a) n → Rising a a 0 n pre xs ys (n ∷ ys) ys
 unfolding Level

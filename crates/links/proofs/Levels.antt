@@ -1,8 +1,8 @@
 -- The level of a row that stands nowhere in the order, or of the head, may change.
 use Prim.Native.Nat.{ℕ, _+_, _-_, _<_, _≤_}
 use mathlib.Core.Path.{_≡_, refl, sym, ap, subst, _∙_}
-use mathlib.Core.Logic.{_≢_, _⊎_, inl, inr}
-use mathlib.Core.Bool.{Bool, true, false, cond}
+use mathlib.Core.Logic.{_≢_, inl, inr}
+use mathlib.Core.Bool.{Bool, false, cond}
 use mathlib.Core.List.{List, [], _∷_}
 use native.Mathlib.Omega.{arith}
 use lib.Dec.{ltb}
@@ -13,7 +13,7 @@ use Rattle.links.specs.declared.Row.{Row}
 use Rattle.links.specs.declared.Way.{Way}
 use Rattle.links.specs.declared.Way.the-variants.{Ahead, Back}
 use Rattle.links.specs.Cells.{none, blank, linkOf, levels, view}
-use Rattle.links.specs.Chain.{plus, nearest, Each, Distinct, Away, Toward, Right, reach, at, Sound, Half}
+use Rattle.links.specs.Chain.{plus, nearest, Each, Away, Toward, Right, reach, at, Sound}
 use Rattle.links.specs.Ring.{Level, Only, Pair, Tall, Ring, Leveled}
 use borrow.Author.Tests.{ltb-true, ltb-false, le-ltb}
 use native.Mathlib.Nat.{eq-or-lt-of-le}

@@ -1,5 +1,5 @@
 -- The order is what the links of level 0 lead through.
-use Prim.Native.Nat.{ℕ, zero, suc, _+_, _-_, _<_, _≤_}
+use Prim.Native.Nat.{ℕ, zero, suc, _+_, _<_, _≤_}
 use mathlib.Core.Path.{_≡_, refl, sym, ap, subst, _∙_}
 use mathlib.Core.List.{List, [], _∷_, _++_}
 use mathlib.Core.HLevel.{×-prop}
@@ -13,10 +13,10 @@ use lib.Seq.{drop-cons}
 use Rattle.std.proofs.shelf.Lists.{length-take-le}
 use Rattle.links.specs.declared.Link.{Link}
 use Rattle.links.specs.declared.Row.{Row}
-use Rattle.links.specs.declared.Way.the-variants.{Ahead, Back}
+use Rattle.links.specs.declared.Way.the-variants.{Ahead}
 use Rattle.links.specs.Cells.{levels, view}
-use Rattle.links.specs.Chain.{limit, nearest, Each, Right, reach, at, Toward}
-use Rattle.links.specs.Ring.{Level, Tall, Ring, first, walk, order, turned, Holds}
+use Rattle.links.specs.Chain.{limit, reach, at}
+use Rattle.links.specs.Ring.{Level, Ring, first, walk, order, turned, Holds}
 use Rattle.links.proofs.Chains.{hit}
 use Rattle.links.proofs.Splits.{ring-back, ring-on}
 use Rattle.links.proofs.Inserts.{first-leads}

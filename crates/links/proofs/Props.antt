@@ -1,18 +1,18 @@
 -- That a ring is right has one proof at most, so a ghost field can hold it and give it back.
-use Prim.Native.Nat.{ℕ, _+_, _<_, _≤_}
-use mathlib.Core.Path.{_≡_, ap}
+use Prim.Native.Nat.{ℕ}
+use mathlib.Core.Path.{ap}
 use mathlib.Core.Logic.{_≢_}
 use mathlib.Core.HLevel.{Π-prop, ×-prop, ×₃-prop, ¬-prop, Unit-prop, →-prop}
 use mathlib.Core.Bool.{Bool}
 use mathlib.Core.List.{List, [], _∷_}
 use native.Mathlib.Nat.{ℕ-set}
 use native.Mathlib.Bridge.{le-prop}
-use lib.ListN.{length, getD}
+use lib.ListN.{length}
 use Rattle.links.specs.declared.Link.{Link}
 use Rattle.links.specs.declared.Row.{Row}
 use Rattle.links.specs.declared.Way.the-variants.{Ahead, Back}
 use Rattle.links.specs.Cells.{levels, view}
-use Rattle.links.specs.Chain.{nearest, Each, Distinct, Away, Toward, Right, reach, at, Sound, Half}
+use Rattle.links.specs.Chain.{nearest, Each, Distinct, Away, Toward, Right, reach, at, Half}
 use Rattle.links.specs.Ring.{Level, Tall, Ring}
 
 link-set : IsSet Link

@@ -1,22 +1,21 @@
 -- What the links of a level lead through.
-use Prim.Native.Nat.{ℕ, zero, suc, _+_, _-_, _<_, _≤_}
+use Prim.Native.Nat.{ℕ, suc, _+_, _<_, _≤_}
 use mathlib.Core.Path.{_≡_, refl, sym, ap, subst, _∙_}
-use mathlib.Core.Logic.{_⊎_, inl, inr}
+use mathlib.Core.Logic.{inl, inr}
 use mathlib.Core.Bool.{Bool, true, false, cond}
 use mathlib.Core.List.{List, [], _∷_, _++_, append-nil}
 use native.Mathlib.Omega.{arith}
-use native.Mathlib.Numerals.{sub-one}
 use borrow.Author.Tests.{lt-ltb}
 use lib.ListN.{length, getD, take, drop}
 use Rattle.links.specs.declared.Link.{Link}
 use Rattle.links.specs.declared.Row.{Row}
 use Rattle.links.specs.declared.Way.the-variants.{Ahead, Back}
 use Rattle.links.specs.Cells.{levels, view}
-use Rattle.links.specs.Chain.{plus, nearest, Away, Toward, reach, at}
+use Rattle.links.specs.Chain.{nearest, Away, reach, at}
 use Rattle.links.specs.Ring.{Level, Ring, Holds, order, turned, walk}
-use Rattle.links.specs.Report.{those, total, Levels-lead, Counts-steps}
+use Rattle.links.specs.Report.{those, total, Levels-lead}
 use Rattle.links.proofs.Chains.{hit, miss, known}
-use Rattle.links.proofs.Orders.{split, length-order, length-turned, here-at, here-row}
+use Rattle.links.proofs.Orders.{split, length-order, length-turned, here-row}
 
 pub those-hit : (p : ℕ → Bool) (r : ℕ) (rs : List ℕ) → p r ≡ true → those p (r ∷ rs) ≡ r ∷ those p rs
 those-hit p r rs e = ap (λ v. cond v (r ∷ those p rs) (those p rs)) e
@@ -70,23 +69,6 @@ levels-lead a n l h lt =
           ∙ omega (arith, length-order a n, length-turned os []),
       those-turned p os [],
     )
-
-abbrev Steps : List ℕ → Link → Type 0
-Steps us k = ((k .row ≡ 0) × (k .count ≡ length us + 1)) ⊎ ((k .row ≡ getD us (k .count - 1) 0) × (1 ≤ k .count) × (k .count ≤ length us))
-
-step-on : (u : ℕ) (us : List ℕ) (k : Link) → Steps us k → Steps (u ∷ us) (plus 1 k)
-step-on u us k s = elim s [
-  | inl e ↦ inl (e .0, omega (arith, e .1))
-  | inr e ↦ inr (let same : suc (k .count - 1) ≡ 1 + k .count - 1 = omega (arith, e .1) in
-      (e .0 ∙ ap (λ i. getD (u ∷ us) i 0) same, omega arith, omega (arith, e .2)))
-]
-
-pub counts-steps : Counts-steps
-counts-steps p [] = inl (refl, refl)
-counts-steps p (u ∷ us) = elim (known (p u)) [
-  | inl y ↦ subst (λ k. Steps (u ∷ us) k) (sym (hit p u us y)) (inr (refl, omega arith, omega arith))
-  | inr y ↦ subst (λ k. Steps (u ∷ us) k) (sym (miss p u us y)) (step-on u us (nearest p us) (counts-steps p us))
-]
 
 -- the link back from the end
 pub end-leads : (a : List Row) (n l : ℕ) → Holds a n → l < getD (levels a) 0 0 → at (view Back l a) 0 ≡ nearest (reach (levels a) l) (turned (order a n) [])

@@ -1,33 +1,24 @@
 -- One level of links as a row comes in.
-use Prim.Native.Nat.{ℕ, zero, suc, _+_, _-_, _<_, _≤_}
+use Prim.Native.Nat.{ℕ, _+_, _-_, _<_, _≤_}
 use mathlib.Core.Path.{_≡_, refl, sym, ap, subst, _∙_}
-use mathlib.Core.Logic.{_≢_, _⊎_, inl, inr}
-use mathlib.Core.Bool.{Bool, true, false}
-use mathlib.Core.List.{List, [], _∷_}
+use mathlib.Core.Bool.{Bool}
+use mathlib.Core.List.{List, _∷_}
 use native.Mathlib.Omega.{arith}
 use native.Mathlib.Nat.{add-comm}
 use borrow.Author.Tests.{lt-ltb, le-ltb}
 use lib.ListN.{length, getD, set}
 use Rattle.links.specs.declared.Link.{Link}
 use Rattle.links.specs.declared.Row.{Row}
-use Rattle.links.specs.declared.Way.{Way}
 use Rattle.links.specs.declared.Way.the-variants.{Ahead, Back}
-use Rattle.links.specs.Cells.{levels, view, Wrote}
-use Rattle.links.specs.Chain.{limit, plus, nearest, Joins, Right, reach, at, Sound, Half, Fresh}
+use Rattle.links.specs.Cells.{levels, view}
+use Rattle.links.specs.Chain.{limit, plus, nearest, Right, reach, at, Sound}
 use Rattle.links.specs.Ring.{Level, Only, Pair, Sides}
-use Rattle.links.proofs.Heads.{length-levels, length-view}
+use Rattle.links.proofs.Heads.{length-view}
 use Rattle.links.proofs.Chains.{nearest-below, enters, stretches, leaves}
 use Rattle.links.proofs.Climbs.{nearest-long}
 
-pub wrote-only : (a b : List Row) (r : ℕ) (w : Way) (l : ℕ) (k : Link) → Wrote a b r w l k → Only a b l
-wrote-only a b r w l k h = record { other = h .other; levels-same = h .levels-same }
-
 pub only-twice : (a b c : List Row) (l : ℕ) → Only a b l → Only b c l → Only a c l
 only-twice a b c l h i = record { other = (λ v m ne. i .other v m ne ∙ h .other v m ne); levels-same = i .levels-same ∙ h .levels-same }
-
-pub wrote-pair : (a b c : List Row) (l r : ℕ) (k : Link) (s : ℕ) (g : Link) → Wrote a b r Ahead l k → Wrote b c s Back l g → Pair a c l r k s g
-wrote-pair a b c l r k s g h i =
-    (i .back ∙ h .same, i .same ∙ ap (λ x. set x s g) (h .back), only-twice a b c l (wrote-only a b r Ahead l k h) (wrote-only b c s Back l g i))
 
 some : (size r : ℕ) → r < size → 0 < size
 some size r h = omega arith

@@ -1,19 +1,18 @@
 -- The split may stand anywhere in the order, and a link leads from one split to another.
-use Prim.Native.Nat.{ℕ, zero, suc, _+_, _-_, _<_, _≤_}
-use mathlib.Core.Path.{_≡_, refl, sym, ap, subst, _∙_}
+use Prim.Native.Nat.{ℕ, _+_, _-_, _<_, _≤_}
+use mathlib.Core.Path.{_≡_, refl, sym, subst, _∙_}
 use mathlib.Core.Logic.{_≢_, _⊎_, inl, inr}
-use mathlib.Core.Bool.{Bool, true, false}
+use mathlib.Core.Bool.{Bool}
 use mathlib.Core.List.{List, [], _∷_}
 use native.Mathlib.Omega.{arith}
-use borrow.Author.Tests.{lt-ltb, le-ltb}
-use lib.ListN.{length, getD, set}
+use borrow.Author.Tests.{lt-ltb}
+use lib.ListN.{length, getD}
 use Rattle.links.specs.declared.Link.{Link}
 use Rattle.links.specs.declared.Row.{Row}
-use Rattle.links.specs.declared.Way.{Way}
-use Rattle.links.specs.declared.Way.the-variants.{Ahead, Back}
+use Rattle.links.specs.declared.Way.the-variants.{Back}
 use Rattle.links.specs.Cells.{levels, view}
-use Rattle.links.specs.Chain.{plus, nearest, Each, Distinct, Away, Toward, Right, reach, at, Sound, Half, Fresh}
-use Rattle.links.specs.Ring.{Level, Tall, Ring, first}
+use Rattle.links.specs.Chain.{plus, nearest, Each, reach, at, Sound}
+use Rattle.links.specs.Ring.{Level, Tall, Ring}
 use Rattle.links.proofs.Chains.{hit, miss, known, each-map, each-both}
 use Rattle.links.proofs.Climbs.{nearest-long}
 
@@ -112,15 +111,6 @@ counted-step a xs here count v k h ne e f = elim h [
         ],
         b .1,
       ))
-]
-
-zero-not : (a : List Row) (xs ys : List ℕ) → Ring a xs (0 ∷ ys) → ⊥
-zero-not a xs ys g = omega (arith, g .sound .1 .0 .0 .0)
-
-pub counted-end : (a : List Row) (xs : List ℕ) (here count : ℕ) → Counted a xs here count → here ≡ 0 → count ≡ length xs + 1
-counted-end a xs here count h z = elim h [
-  | inl e ↦ e .1
-  | inr e ↦ absurd (zero-not a (e .0) (e .1 .0) (subst (λ x. Ring a (e .0) (x ∷ e .1 .0)) z (e .1 .1 .0)))
 ]
 
 pub counted-bound : (a : List Row) (xs : List ℕ) (here count : ℕ) → Counted a xs here count → count ≤ length xs + 1

@@ -1,9 +1,9 @@
 -- Rows as cells of links: what one cell holds, and what a write of one cell leaves.
-use Prim.Native.Nat.{ℕ, _+_, _<_, _≤_}
+use Prim.Native.Nat.{ℕ, _<_}
 use mathlib.Core.Path.{_≡_}
 use mathlib.Core.Logic.{_≢_}
-use mathlib.Core.List.{List, [], _∷_, _++_, map}
-use lib.ListN.{length, getD, set, replicate}
+use mathlib.Core.List.{List, [], _∷_, map}
+use lib.ListN.{getD, set}
 use Rattle.links.specs.declared.Link.{Link}
 use Rattle.links.specs.declared.LevelLinks.{LevelLinks}
 use Rattle.links.specs.declared.Links.{Links}

@@ -1,10 +1,10 @@
 -- One level of links along a list of rows, in one direction. A place in the list is a split: the rows behind it, the nearest first,
 -- and the rows before it. Row 0 is the head, and, since the links of a level run in a ring, the end too.
-use Prim.Native.Nat.{ℕ, _+_, _<_, _≤_}
+use Prim.Native.Nat.{ℕ, _+_, _<_}
 use mathlib.Core.Path.{_≡_}
 use mathlib.Core.Logic.{_≢_, _⊎_}
-use mathlib.Core.Bool.{Bool, true, false, cond}
-use mathlib.Core.List.{List, [], _∷_, _++_}
+use mathlib.Core.Bool.{Bool, true, cond}
+use mathlib.Core.List.{List, [], _∷_}
 use lib.ListN.{length, getD}
 use lib.Dec.{ltb}
 use Rattle.links.specs.declared.Link.{Link}

@@ -1,3 +1,4 @@
+-- The files of this folder.
 pub mod Cells
 pub mod Chain
 pub mod Ring

@@ -1,5 +1,5 @@
 // One row: its level and its links.
-ghost use Prim.Native.Nat.{ℕ, _<_};
+ghost use Prim.Native.Nat.{_<_};
 ghost use mathlib.Core.Path.{_≡_};
 ghost use Rattle.links.specs.Cells.{Throughout, linkOf, none, withLink};
 ghost use Rattle.links.specs.Chain.{nearby};

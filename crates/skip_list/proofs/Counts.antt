@@ -10,9 +10,7 @@ use lib.ListN.{length, getD, take, drop, length-drop}
 use Rattle.std.specs.declared.option.Option.{Option}
 use Rattle.std.specs.declared.option.Option.the-variants.{Some, None}
 use Rattle.std.proofs.shelf.Lists.{getD-drop, getD-take, length-take-le}
-use Rattle.order.specs.Order.{At}
 use Rattle.links.proofs.Chains.{known}
-use Rattle.skip_list.specs.declared.report.KeyLink.{KeyLink}
 use Rattle.skip_list.specs.Law.{NamesAhead, NamesBack}
 use Rattle.skip_list.specs.Tower.{further, linkAhead, linkBack, nearestKey}
 

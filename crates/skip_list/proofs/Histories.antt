@@ -1,5 +1,5 @@
 -- What histories leave.
-use Prim.Native.Nat.{ℕ, zero, suc, max, _+_, _-_, _<_, _≤_}
+use Prim.Native.Nat.{ℕ, max, _+_, _<_, _≤_}
 use mathlib.Core.Path.{_≡_, refl, sym, ap, subst, _∙_}
 use mathlib.Core.Logic.{_⊎_, inl, inr, ⊎-elim}
 use mathlib.Core.List.{List, [], _∷_}
@@ -13,7 +13,7 @@ use Rattle.std.specs.declared.result.Result.{Result}
 use Rattle.std.specs.declared.result.Result.the-variants.{Ok, Err}
 use Rattle.std.proofs.shelf.Tests.{cases-lt}
 use Rattle.order.specs.declared.fault.SetFault.{SetFault}
-use Rattle.order.specs.Order.{At, Absent, Distinct, Stands}
+use Rattle.order.specs.Order.{At, Absent, Distinct}
 use Rattle.order.proofs.Places.{Before, before-inserted, before-removed}
 use Rattle.skip_list.specs.declared.lent.Lent.{Lent}
 use Rattle.skip_list.specs.Law.{LevelLaw}
@@ -23,7 +23,7 @@ use Rattle.skip_list.specs.Level.{levelOf}
 use Rattle.skip_list.specs.declared.report.KeyLinks.{KeyLinks}
 use Rattle.skip_list.specs.declared.fault.ListFault.{ListFault}
 use Rattle.skip_list.specs.Tower.{highs, height, Leveled, Linked}
-use Rattle.skip_list.specs.History.{Deed, put, out, orderAfter, levelsAfter, heightAfter, Fair, Told, LastPut, Drawn, Largest, LevelTold, ToldNext, afterPut}
+use Rattle.skip_list.specs.History.{Deed, put, out, orderAfter, levelsAfter, heightAfter, Fair, Told, LastPut, Largest, LevelTold, ToldNext, afterPut}
 
 cases-le : (a b : ℕ) → (a ≤ b) ⊎ (b ≤ a)
 cases-le a b = ⊎-elim (λ h. inl (omega arith)) inr (cases-lt a b)

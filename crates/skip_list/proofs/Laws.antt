@@ -1,15 +1,13 @@
 -- The law of a level, from links that hold.
-use Prim.Native.Nat.{ℕ, zero, suc, _+_, _-_, _<_, _≤_}
+use Prim.Native.Nat.{ℕ, suc, _+_, _<_, _≤_}
 use mathlib.Core.Path.{_≡_, refl, sym, ap, subst, _∙_}
 use mathlib.Core.Logic.{inl, inr}
-use mathlib.Core.Bool.{Bool, true, false, cond}
-use mathlib.Core.List.{List, [], _∷_, _++_, map, reverse, reverseAux, map-append}
+use mathlib.Core.Bool.{Bool}
+use mathlib.Core.List.{List, [], _∷_, _++_, map, reverse, map-append}
 use native.Mathlib.Omega.{arith}
-use borrow.Author.Tests.{lt-ltb}
-use lib.Dec.{ltb}
-use lib.ListN.{length, getD, take, drop, length-map, length-drop, List·getD-map}
+use lib.ListN.{length, getD, take, drop, length-map, List·getD-map}
 use lib.Seq.{take-all}
-use Rattle.std.proofs.shelf.Lists.{length-take-le, getD-default, getD-past}
+use Rattle.std.proofs.shelf.Lists.{getD-default, getD-past}
 use Rattle.std.specs.declared.option.Option.{Option}
 use Rattle.std.specs.declared.option.Option.the-variants.{Some, None}
 use Rattle.order.specs.Order.{At}
@@ -18,20 +16,19 @@ use Rattle.links.specs.declared.Way.the-variants.{Ahead, Back}
 use Rattle.links.specs.Cells.{cells, levels, view}
 use Rattle.links.specs.Chain.{at, nearest, reach}
 use Rattle.links.specs.Report.{those, total}
-use Rattle.links.specs.Ring.{Level, order, turned, walk}
+use Rattle.links.specs.Ring.{Level, order, turned}
 use Rattle.links.proofs.Chains.{hit, known, miss}
 use Rattle.links.proofs.Orders.{length-order, length-turned}
 use Rattle.links.proofs.Reports.{end-leads, levels-lead, reported, row-stands}
 use Rattle.skip_list.specs.declared.lent.Lent.{Lent}
 use Rattle.skip_list.specs.declared.report.KeyLink.{KeyLink}
-use Rattle.skip_list.specs.Law.{LevelLaw, NamesAhead, NamesBack, andNone, linkIn, linkHeld, reaching, visited}
+use Rattle.skip_list.specs.Law.{LevelLaw, linkIn, reaching, visited}
 use Rattle.skip_list.specs.Lent.{Ready, keysOf, kept, lower, picked, size, used}
-use Rattle.skip_list.specs.Tower.{further, height, high, highs, keyLink, keyOf, linkAhead, linkBack, linksAt, nearestKey}
+use Rattle.skip_list.specs.Tower.{height, highs, keyLink, keyOf, linkAhead, linkBack, linksAt, nearestKey}
 use Rattle.skip_list.proofs.Counts.{ahead-names, back-names}
 use Rattle.skip_list.proofs.Picks.{picked-take, picked-drop}
 use Rattle.skip_list.proofs.Readies.{length-kept, linked-at, rows-below}
 use Rattle.skip_list.proofs.Towers.{Keyed, nearest-key, those-keys, turned-reverse, map-reverse, high-reverse, picked-reverse, high-take, high-drop, lower-take, lower-drop, keyed-take, keyed-drop, keyed-turned}
-use Rattle.links.specs.Chain.{Each}
 use Rattle.links.proofs.Chains.{each-map}
 
 module _ {A : Type 0} (s : Lent A) (h : Ready s) where

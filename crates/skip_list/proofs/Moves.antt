@@ -1,11 +1,11 @@
 -- A list that a row came into, and one that a row left.
-use Prim.Native.Nat.{ℕ, zero, suc, max, _+_, _-_, _<_, _≤_}
+use Prim.Native.Nat.{ℕ, zero, suc, max, _+_, _-_, _<_}
 use mathlib.Core.Path.{_≡_, refl, sym, ap, subst, _∙_}
 use mathlib.Core.Logic.{_≢_}
-use mathlib.Core.List.{List, [], _∷_, _++_}
+use mathlib.Core.List.{List, [], _∷_}
 use native.Mathlib.Omega.{arith}
 use denote.Ref.{now}
-use lib.ListN.{length, getD, set, take, drop}
+use lib.ListN.{length, getD, set}
 use lib.Seq.{getD-set-same, getD-set-other}
 use Rattle.links.specs.Chain.{Each}
 use Rattle.skip_list.specs.Tower.{high, highs, height}
@@ -15,13 +15,12 @@ use Rattle.order.specs.Order.{At}
 use Rattle.links.specs.Cells.{cells, levels}
 use Rattle.links.specs.Ring.{Holds, order}
 use Rattle.links.specs.Ring as ring
-use Rattle.links.proofs.Orders.{length-order}
-use Rattle.index.specs.Index.{Indexed, Same, tally}
+use Rattle.index.specs.Index.{Indexed, tally}
 use Rattle.index.proofs.Cut.{shuffled}
 use Rattle.skip_list.specs.declared.lent.Lent.{Lent}
 use Rattle.skip_list.specs.Lent.{lower, picked, raised, keysOf, size, used, kept, Ready, Enters, Chained}
-use Rattle.skip_list.proofs.Picks.{Below, lower-inserted, lower-removed, picked-inserted, picked-removed, not-in, tally-inserted, tally-removed}
-use Rattle.skip_list.proofs.Readies.{rows-below, length-used, linked-at, row-low}
+use Rattle.skip_list.proofs.Picks.{lower-inserted, lower-removed, picked-inserted, picked-removed, not-in, tally-inserted, tally-removed}
+use Rattle.skip_list.proofs.Readies.{rows-below, row-low}
 
 high-inserted : (ls os : List ℕ) (i r : ℕ) → high ls (inserted os i r) ≡ inserted (high ls os) i (getD ls r 0)
 high-inserted ls os zero r = refl

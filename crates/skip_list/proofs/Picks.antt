@@ -1,16 +1,16 @@
 -- The keys of rows, and the rows of the index.
-use Prim.Native.Nat.{ℕ, zero, suc, _+_, _-_, _<_, _≤_}
+use Prim.Native.Nat.{ℕ, zero, suc, _+_, _-_, _<_}
 use mathlib.Core.Path.{_≡_, refl, sym, ap, subst, _∙_}
-use mathlib.Core.Logic.{_≢_, _⊎_, inl, inr, ⊎-elim}
-use mathlib.Core.List.{List, [], _∷_, _++_, map}
+use mathlib.Core.Logic.{_≢_, ⊎-elim}
+use mathlib.Core.List.{List, [], _∷_, _++_}
 use native.Mathlib.Omega.{arith}
 use lib.ListN.{length, getD, set, take, drop, take-append-drop, length-map, List·getD-map}
 use lib.Seq.{drop-cons, getD-set-same, getD-set-other}
 use Rattle.std.specs.Holes.{inserted, removed}
-use Rattle.std.proofs.shelf.Lists.{append-assoc, length-set, length-append, getD-default}
+use Rattle.std.proofs.shelf.Lists.{append-assoc, length-set, getD-default}
 use Rattle.std.proofs.shelf.Tests.{cases-eq}
 use Rattle.links.specs.Chain.{Each}
-use Rattle.index.specs.Index.{mark, tally, Same}
+use Rattle.index.specs.Index.{mark, tally}
 use Rattle.index.proofs.Chains.{mark-same, mark-other}
 use Rattle.index.proofs.Cut.{tally-append}
 use Rattle.order.specs.Order.{At}

@@ -8,23 +8,21 @@ use Rattle.std.specs.Options.{isSome}
 use Rattle.std.specs.Results.{isOk}
 use Rattle.std.proofs.shelf.Lists.{take-more-set}
 use Rattle.std.proofs.shelf.Tests.{true≢false}
-use Rattle.std.specs.Holes.{inserted, removed}
 use Rattle.std.specs.declared.option.Option.{Option}
 use Rattle.std.specs.declared.option.Option.the-variants.{Some, None}
 use Rattle.std.specs.declared.result.Result.{Result}
 use Rattle.std.specs.declared.result.Result.the-variants.{Ok, Err}
 use Rattle.order.specs.declared.fault.SetFault.{SetFault}
-use Rattle.order.specs.Order.{At, Found, Given, InsertsAfter, InsertsAt, Meaning, RemovesAt, RemovesKey}
-use Rattle.skip_list.specs.declared.call.Answer.{Answer}
-use Rattle.skip_list.specs.declared.call.Answer.the-variants.{Key, Place, Put, Spliced}
+use Rattle.order.specs.Order.{Found, Given, InsertsAfter, InsertsAt, Meaning, RemovesAt, RemovesKey}
+use Rattle.skip_list.specs.declared.call.Answer.the-variants.{Key, Place, Put}
 use Rattle.skip_list.specs.declared.call.Call.{Call}
-use Rattle.skip_list.specs.declared.call.Call.the-variants.{IndexOf, InsertAfter, InsertHead, InsertIndex, KeyOf, RemoveIndex, RemoveKey, Splice}
+use Rattle.skip_list.specs.declared.call.Call.the-variants.{IndexOf, InsertAfter, InsertHead, InsertIndex, KeyOf, RemoveIndex, RemoveKey}
 use Rattle.skip_list.specs.declared.call.Turn.{Turn}
 use Rattle.skip_list.specs.declared.lent.Lent.{Lent}
-use Rattle.skip_list.specs.History.{Deed, Told, ToldNext, afterAt, afterKey, afterPut, orderAfter, out, put}
+use Rattle.skip_list.specs.History.{Deed, Told, ToldNext, afterAt, afterKey, afterPut, put}
 use Rattle.skip_list.specs.Lent.{kept, means, size}
-use Rattle.skip_list.specs.Play.{Adds, Carries, Plays, PutAfter, Runs, called}
-use Rattle.skip_list.specs.Splice.{SplicesTold, Unmoved, meant}
+use Rattle.skip_list.specs.Play.{Adds, Carries, Plays, Runs, called}
+use Rattle.skip_list.specs.Splice.{Unmoved, meant}
 
 module _ {A : Type 0} where
   -- what a call leaves of the room

@@ -1,21 +1,18 @@
 -- What a list that is ready gives.
-use Prim.Native.Nat.{ℕ, zero, suc, _+_, _-_, _<_, _≤_}
-use mathlib.Core.Path.{_≡_, refl, sym, ap, subst, _∙_}
-use mathlib.Core.Logic.{_≢_}
-use mathlib.Core.List.{List, [], _∷_, _++_, map}
+use Prim.Native.Nat.{ℕ, _+_, _-_, _<_}
+use mathlib.Core.Path.{_≡_, sym, ap, subst, _∙_}
+use mathlib.Core.List.{List, _∷_}
 use native.Mathlib.Omega.{arith}
-use denote.Ref.{now}
-use lib.ListN.{length, getD, set, take, drop}
+use lib.ListN.{length, getD}
 use Rattle.std.proofs.shelf.Lists.{getD-default}
 use Rattle.order.specs.Order.{At}
-use Rattle.links.specs.Cells.{cells, levels}
-use Rattle.links.specs.Chain.{Each, limit}
-use Rattle.links.specs.Ring.{Ring, Holds, order, turned}
+use Rattle.links.specs.Cells.{cells}
+use Rattle.links.specs.Chain.{limit}
+use Rattle.links.specs.Ring.{Ring, order}
 use Rattle.links.proofs.Orders.{length-order, here-at, here-row}
-use Rattle.index.specs.Index.{tally}
 use Rattle.skip_list.specs.declared.lent.Lent.{Lent}
-use Rattle.skip_list.specs.Lent.{lower, picked, keysOf, size, used, kept, Ready}
-use Rattle.skip_list.proofs.Picks.{Below, lower-below, lower-at, length-lower, stands, length-picked, kept-at}
+use Rattle.skip_list.specs.Lent.{keysOf, size, used, kept, Ready}
+use Rattle.skip_list.proofs.Picks.{Below, lower-below, lower-at, length-lower, length-picked, kept-at}
 
 module _ {A : Type 0} (s : Lent A) (h : Ready s) where
   pub rows-below : Below (size s) (used s)

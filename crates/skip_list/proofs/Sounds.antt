@@ -1,13 +1,12 @@
 -- What a lookup found, in a list whose chains are those of the keys' hashes.
-use Prim.Native.Nat.{ℕ, zero, suc, min, _+_, _-_, _*_, _<_, _≤_}
+use Prim.Native.Nat.{ℕ, zero, suc, _+_, _*_, _<_, _≤_}
 use mathlib.Core.Path.{_≡_, refl, sym, ap, subst, _∙_}
-use mathlib.Core.Logic.{_≢_, ⊎-elim, ∥∥₁-elim, ∥∥₁-map, ∥∥₁-prop}
-use mathlib.Core.Bool.{Bool, true, false, cond}
-use mathlib.Core.List.{List, [], _∷_, _++_}
+use mathlib.Core.Logic.{⊎-elim, ∥∥₁-elim, ∥∥₁-map}
+use mathlib.Core.Bool.{true, false, cond}
+use mathlib.Core.List.{List, [], _∷_}
 use native.Mathlib.Omega.{arith}
 use native.Mathlib.Bridge.{le-prop}
 use native.Mathlib.Nat.{ℕ-set}
-use mathlib.Core.HLevel.{Π-prop, ×-prop, →-prop}
 use denote.Ref.{now}
 use lib.Dec.{eqb}
 use lib.ListN.{length, getD, set}
@@ -25,7 +24,7 @@ use Rattle.order.proofs.Places.{apart-inserted, apart-removed}
 use Rattle.links.specs.Cells.{cells, levels}
 use Rattle.links.specs.Ring.{Holds}
 use Rattle.links.proofs.Orders.{held}
-use Rattle.index.specs.Index.{Index, Indexed, Row, Used, tally, spot, homes}
+use Rattle.index.specs.Index.{Indexed, Row, Used, tally, spot, homes}
 use Rattle.index.proofs.Chains.{held-at, home-new, home-old}
 use Rattle.index.proofs.Cut.{room-left, room-none, free-unused}
 use Rattle.skip_list.specs.declared.lent.Lent.{Lent}
@@ -33,7 +32,7 @@ use Rattle.skip_list.specs.declared.list.SkipList.{SkipList}
 use Rattle.skip_list.specs.Lent.{picked, keysOf, size, used, kept, Chained, Ready, Enters, Sound}
 use Rattle.skip_list.specs.Memory.{Usable}
 use Rattle.skip_list.proofs.Picks.{kept-at, row-at, stands, stands-some}
-use Rattle.skip_list.proofs.Readies.{rows-below, row-low, length-used, length-kept}
+use Rattle.skip_list.proofs.Readies.{rows-below, row-low, length-used}
 
 -- what the ghost fields hold
 pub readied : {A : Type 0} (s : Lent A) → size s ≤ 4096 → length (now (s .index .slots)) ≡ size s + size s → length (levels (cells (s .links))) ≡ size s + 1 → ∥ Holds (cells (s .links)) (s .links .len) ∥₁ → Ready s
@@ -148,7 +147,3 @@ usable-fits keys rows slots n e = ⊎-elim
     (λ q. (q .1 .1, (omega (arith, q .0), (omega (arith, q .0), omega (arith, q .1 .2)))))
     (λ q. (omega (arith, q .0), (omega (arith, q .0), (omega (arith, q .0), omega (arith, q .0)))))
     e
-
--- soundness has one proof at most
-pub sound-prop : {A : Type 0} (identity : A → List ℕ) (hashed : List ℕ → ℕ) (s : Lent A) → IsProp (Sound s identity hashed)
-sound-prop identity hashed s = ×-prop ∥∥₁-prop (Π-prop (λ i. Π-prop (λ j. Π-prop (λ x. →-prop (→-prop (ℕ-set i j))))))

@@ -1,20 +1,18 @@
 -- Links between keys, from links between rows.
-use Prim.Native.Nat.{ℕ, zero, suc, _+_, _-_, _<_, _≤_}
-use mathlib.Core.Path.{_≡_, refl, sym, ap, subst, _∙_}
+use Prim.Native.Nat.{ℕ, zero, suc, _-_, _<_, _≤_}
+use mathlib.Core.Path.{_≡_, refl, sym, ap, _∙_}
 use mathlib.Core.Logic.{inl, inr}
-use mathlib.Core.Bool.{Bool, true, false, cond}
-use mathlib.Core.List.{List, [], _∷_, _++_, map, reverse, reverseAux}
+use mathlib.Core.Bool.{Bool, cond}
+use mathlib.Core.List.{List, [], _∷_, _++_, map, reverseAux}
 use native.Mathlib.Omega.{arith}
 use lib.ListN.{length, getD, take, drop}
 use Rattle.std.specs.declared.option.Option.{Option}
-use Rattle.std.specs.declared.option.Option.the-variants.{Some, None}
-use Rattle.links.specs.declared.Link.{Link}
-use Rattle.links.specs.Chain.{Each, nearest, plus, reach}
+use Rattle.std.specs.declared.option.Option.the-variants.{Some}
+use Rattle.links.specs.Chain.{Each, nearest, reach}
 use Rattle.links.specs.Report.{those}
 use Rattle.links.specs.Ring.{turned}
 use Rattle.links.proofs.Chains.{hit, miss, known}
 use Rattle.links.proofs.Reports.{those-hit, those-miss}
-use Rattle.skip_list.specs.declared.report.KeyLink.{KeyLink}
 use Rattle.skip_list.specs.Law.{reaching}
 use Rattle.skip_list.specs.Lent.{lower, picked}
 use Rattle.skip_list.specs.Tower.{firstOf, further, high, keyLink, keyOf, nearestKey}

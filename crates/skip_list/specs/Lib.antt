@@ -1,3 +1,4 @@
+-- The files of this folder.
 pub mod Faults
 pub mod History
 pub mod Lent

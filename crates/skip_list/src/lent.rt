@@ -17,9 +17,9 @@ use order::key::Key;
 
 // What is lent: keys beside links, and the index that finds a key's row.
 #[derive(Drop)]
-pub struct Lent<'a, K> {
-    pub index: KeyRows<'a, K>,
-    pub links: LinkRows<'a>,
+pub(crate) struct Lent<'a, K> {
+    pub(crate) index: KeyRows<'a, K>,
+    pub(crate) links: LinkRows<'a>,
 }
 
 // The key in a row.
@@ -32,7 +32,7 @@ pub(crate) fn element<K: Copy>(keys: &[K], at: usize) -> K
 
 impl<'a, K: HashKey> Lent<'a, K> {
     // No key in n rows.
-    pub fn new(
+    pub(crate) fn new(
         keys: &'a mut [K],
         rows: &'a mut [LinkRow],
         slots: &'a mut [u16],
@@ -61,7 +61,7 @@ impl<'a, K: HashKey> Lent<'a, K> {
     }
 
     // Takes every key out.
-    pub fn clear(&mut self)
+    pub(crate) fn clear(&mut self)
         requires { ⌜ Ready (now self) ⌝ }
         ensures ready { λ _. ⌜ Ready (now (self .exit)) ⌝ }
         ensures size { λ _. ⌜ size (now (self .exit)) ≡ size (now (self .entry)) ⌝ }
@@ -75,7 +75,7 @@ impl<'a, K: HashKey> Lent<'a, K> {
     }
 
     // The row of a key.
-    pub fn find(&self, key: &K) -> Option<u16>
+    pub(crate) fn find(&self, key: &K) -> Option<u16>
         requires { ⌜ Ready (now self) ⌝ }
         ensures row { λ r. ⌜ ((rows : List ℕ) → Index (K·Key .identity) (K·HashKey .hashed) (keysOf (now (self .entry))) (now (now (self .entry) .index .slots)) (now (self .entry) .index .free) rows → Row (K·Key .identity) (keysOf (now (self .entry))) rows (now (key .entry)) r) ⌝ }
         ensures used { λ r. ⌜ ((home : ℕ → ℕ) (rows : List ℕ) → Chained (now (self .entry)) home rows → Used home (spot (K·HashKey .hashed) (size (now (self .entry))) (K·Key .identity (now (key .entry)))) rows r) ⌝ }
@@ -84,7 +84,7 @@ impl<'a, K: HashKey> Lent<'a, K> {
     }
 
     // The place of a row of the order.
-    pub fn place(&self, row: u16) -> u32
+    pub(crate) fn place(&self, row: u16) -> u32
         requires { ⌜ Ready (now self) ⌝ ∗ ⌜ 0 < tally row (used (now self)) ⌝ }
         ensures { λ i. ⌜ At (used (now (self .entry))) i row ⌝ }
     {
@@ -92,7 +92,7 @@ impl<'a, K: HashKey> Lent<'a, K> {
     }
 
     // The key at a place.
-    pub fn key_at(&self, place: u32) -> K
+    pub(crate) fn key_at(&self, place: u32) -> K
         requires { ⌜ Ready (now self) ⌝ ∗ ⌜ place < now self .links .len ⌝ }
         ensures { λ k. ⌜ At (kept (now (self .entry))) place k ⌝ }
     {
@@ -100,14 +100,14 @@ impl<'a, K: HashKey> Lent<'a, K> {
         element(self.index.keys, row as usize - 1)
     }
 
-    pub fn room(&self) -> u32
+    pub(crate) fn room(&self) -> u32
         requires { ⌜ size (now self) ≤ 4096 ⌝ }
         ensures { λ r. ⌜ r ≡ size (now (self .entry)) ⌝ }
     {
         self.index.keys.len() as u32
     }
 
-    pub fn full(&self) -> bool
+    pub(crate) fn full(&self) -> bool
         ensures no { λ r. ⌜ (r ≡ false → now (self .entry) .index .free < size (now (self .entry))) ⌝ }
         ensures yes { λ r. ⌜ (r ≡ true → size (now (self .entry)) ≤ now (self .entry) .index .free) ⌝ }
     {

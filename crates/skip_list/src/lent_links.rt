@@ -34,7 +34,7 @@ impl<'a, K: HashKey> Lent<'a, K> {
     }
 
     // The head's links at a level.
-    pub fn head_links(&self, level: u8) -> KeyLinks<K>
+    pub(crate) fn head_links(&self, level: u8) -> KeyLinks<K>
         requires { ⌜ Ready (now self) ⌝ ∗ ⌜ level < height (now self) ⌝ }
         ensures { λ r. ⌜ r ≡ headLinks (kept (now (self .entry))) (highs (now (self .entry))) level ⌝ }
     {
@@ -49,7 +49,7 @@ impl<'a, K: HashKey> Lent<'a, K> {
     }
 
     // The level of a row of the order.
-    pub fn level_at(&self, row: u16) -> u8
+    pub(crate) fn level_at(&self, row: u16) -> u8
         requires { ⌜ Ready (now self) ⌝ ∗ ⌜ Stands (used (now self)) row ⌝ }
         ensures { λ r. ⌜ ((i : ℕ) → At (used (now (self .entry))) i row → r ≡ getD (highs (now (self .entry))) i 0) ⌝ }
     {
@@ -57,7 +57,7 @@ impl<'a, K: HashKey> Lent<'a, K> {
     }
 
     // The links at a level of a row of the order.
-    pub fn links_at(&self, row: u16, level: u8) -> KeyLinks<K>
+    pub(crate) fn links_at(&self, row: u16, level: u8) -> KeyLinks<K>
         requires { ⌜ Ready (now self) ⌝ ∗ ⌜ ((i : ℕ) × At (used (now self)) i row × (level < getD (highs (now self)) i 0)) ⌝ }
         ensures { λ r. ⌜ ((i : ℕ) → At (used (now (self .entry))) i row → level < getD (highs (now (self .entry))) i 0 → r ≡ linksAt (kept (now (self .entry))) (highs (now (self .entry))) level i) ⌝ }
     {

@@ -13,7 +13,7 @@ use order::key::Key;
 
 impl<'a, K: HashKey> Lent<'a, K> {
     // Puts the key into the first free row, and that row in at a place.
-    pub fn put(&mut self, place: u32, key: K, level: u8)
+    pub(crate) fn put(&mut self, place: u32, key: K, level: u8)
         requires { ⌜ Enters (now self) place level ⌝ }
         ensures keys { λ _. ⌜ keysOf (now (self .exit)) ≡ set (keysOf (now (self .entry))) (now (self .entry) .index .free) key ⌝ }
         ensures used { λ _. ⌜ used (now (self .exit)) ≡ inserted (used (now (self .entry))) place (now (self .entry) .index .free) ⌝ }
@@ -29,7 +29,7 @@ impl<'a, K: HashKey> Lent<'a, K> {
     }
 
     // Takes out a row of the order, which holds the key, and says at which place it stood.
-    pub fn take(&mut self, row: u16, key: &K) -> u32
+    pub(crate) fn take(&mut self, row: u16, key: &K) -> u32
         requires { ⌜ Ready (now self) ⌝ ∗ ⌜ 0 < tally row (used (now self)) ⌝ }
         ensures place { λ r. ⌜ At (used (now (self .entry))) r row ⌝ }
         ensures keys { λ _. ⌜ keysOf (now (self .exit)) ≡ keysOf (now (self .entry)) ⌝ }

@@ -1,5 +1,5 @@
 // Levels from draws.
-ghost use Prim.Native.Nat.{ℕ, _+_, _<_, _≤_};
+ghost use Prim.Native.Nat.{_<_, _≤_};
 ghost use mathlib.Core.Path.{_≡_};
 ghost use Rattle.skip_list.specs.Level.{Examples, levelOf};
 

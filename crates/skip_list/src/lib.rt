@@ -1,7 +1,7 @@
 // The row list: an indexed skip list over lent rows, which is an ordered set.
 pub mod call;
 pub mod fault;
-pub mod lent;
+mod lent;
 mod lent_links;
 mod lent_moves;
 pub mod level;

@@ -1,7 +1,6 @@
 // Scripts of calls on a row list, and the law that they obey.
-ghost use Prim.Native.Nat.{ℕ};
 ghost use mathlib.Core.Path.{_≡_};
-ghost use mathlib.Core.List.{List, [], map};
+ghost use mathlib.Core.List.{List, map};
 ghost use lib.ListN.{length};
 ghost use Rattle.skip_list.specs.Lent.{Sound, size};
 ghost use Rattle.skip_list.specs.Memory.{Usable};

@@ -1,6 +1,5 @@
 // A splice into a row list: keys put in one after the other, each at the level of its draw.
-ghost use Prim.Native.Nat.{ℕ, _≤_};
-ghost use mathlib.Core.Path.{_≡_};
+ghost use Prim.Native.Nat.{_≤_};
 ghost use mathlib.Core.List.{List};
 ghost use Rattle.std.specs.Vec.{made};
 ghost use Rattle.skip_list.specs.Lent.{Sound};

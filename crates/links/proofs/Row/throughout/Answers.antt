@@ -5,10 +5,9 @@ use lib.ListN.{replicate}
 use Rattle.std.proofs.shelf.Lists.{getD-replicate}
 use Rattle.links.specs.declared.Link.{Link}
 use Rattle.links.specs.declared.LevelLinks.{LevelLinks}
-use Rattle.links.specs.declared.Row.{Row}
 use Rattle.links.specs.declared.Way.{Way}
 use Rattle.links.specs.declared.Way.the-variants.{Ahead, Back}
-use Rattle.links.specs.Cells.{unlinked, linkOf, Throughout}
+use Rattle.links.specs.Cells.{unlinked, linkOf}
 use Rattle.links.proofs.Row.throughout.Needs as need
 
 both : Link → LevelLinks

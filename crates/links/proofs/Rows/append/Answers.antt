@@ -1,3 +1,4 @@
+-- Why `append` keeps its contract.
 use mathlib.Core.Path.{refl, _∙_}
 use mathlib.Core.List.{[]}
 use native.Mathlib.Omega.{arith}

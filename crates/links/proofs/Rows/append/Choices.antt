@@ -1,3 +1,4 @@
+-- What the loop of `append` keeps from turn to turn.
 use Prim.Native.Nat.{ℕ}
 use mathlib.Core.Path.{_≡_}
 use mathlib.Core.List.{List, []}

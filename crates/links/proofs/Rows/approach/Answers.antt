@@ -1,3 +1,4 @@
+-- Why `approach` keeps its contract.
 use native.Mathlib.Omega.{arith}
 use Rattle.links.proofs.Heads.{some-row}
 use Rattle.links.proofs.Descents.{approach-step, stop-row}

@@ -1,6 +1,6 @@
+-- Why `beyond` keeps its contract.
 use Prim.Native.Nat.{_<_}
 use mathlib.Core.Path.{sym, subst}
-use native.Mathlib.Omega.{arith}
 use lib.ListN.{length}
 use Rattle.links.specs.Cells.{cells, levels}
 use Rattle.links.proofs.Enters.{onto-row, onto-least, onto-past, onto-next}

@@ -1,3 +1,4 @@
+-- Why `clear` keeps its contract.
 use mathlib.Core.Path.{refl, sym, _∙_}
 use mathlib.Core.List.{_∷_}
 use Rattle.links.proofs.Heads.{length-levels, levels-head}

@@ -1,15 +1,11 @@
-use Prim.Native.Nat.{ℕ, _+_, _<_, _≤_}
-use mathlib.Core.Path.{_≡_, sym, subst}
+-- Why `climb` keeps its contract.
+use Prim.Native.Nat.{_+_, _<_}
+use mathlib.Core.Path.{subst}
 use mathlib.Core.Logic.{inl, inr}
-use mathlib.Core.List.{List, _∷_}
 use native.Mathlib.Omega.{arith}
 use borrow.Author.Tests.{lt-ltb}
-use lib.ListN.{length, getD}
-use Rattle.links.specs.declared.Row.{Row}
-use Rattle.links.specs.declared.Link.{Link}
-use Rattle.links.specs.Cells.{cells, levels, view}
 use Rattle.links.proofs.Heads.{some-row}
-use Rattle.links.proofs.Climbs.{Climbed, climb-starts, climb-row, climb-step, climb-ends}
+use Rattle.links.proofs.Climbs.{climb-starts, climb-row, climb-step, climb-ends}
 use Rattle.links.proofs.Rows.climb.Needs as need
 
 pub loop-link-holds : need.loop-link-holds

@@ -1,6 +1,6 @@
+-- Why `enter` keeps its contract.
 use Prim.Native.Nat.{ℕ, _+_, _-_, _<_}
 use mathlib.Core.Path.{_≡_, refl, _∙_}
-use mathlib.Core.List.{_∷_}
 use native.Mathlib.Omega.{arith}
 use Rattle.links.proofs.Heads.{some-row}
 use Rattle.links.proofs.Descents.{near-row}

@@ -1,3 +1,4 @@
+-- What the loop of `enter` keeps from turn to turn.
 use Prim.Native.Nat.{ℕ, _+_, _≤_}
 use mathlib.Core.Path.{_≡_}
 use mathlib.Core.List.{List, _∷_}

@@ -1,9 +1,8 @@
+-- Why `leave` keeps its contract.
 use Prim.Native.Nat.{ℕ, _+_, _-_, _<_}
-use mathlib.Core.Path.{_≡_, refl, _∙_, subst, sym}
-use mathlib.Core.List.{_∷_}
+use mathlib.Core.Path.{_≡_, refl, _∙_}
 use native.Mathlib.Omega.{arith}
-use lib.ListN.{getD}
-use Rattle.links.specs.Cells.{cells, levels}
+use Rattle.links.specs.Cells.{levels}
 use Rattle.links.proofs.Heads.{some-row}
 use Rattle.links.proofs.Descents.{near-row}
 use Rattle.links.proofs.Enters.{leaves-starts, leaves-onto, leaves-sides, leaves-row, leaves-ends, descent-nears, descent-step}

@@ -1,3 +1,4 @@
+-- Why `new` keeps its contract.
 use mathlib.Core.Path.{refl, sym, _∙_}
 use mathlib.Core.List.{_∷_}
 use native.Mathlib.Omega.{arith}

@@ -1,3 +1,4 @@
+-- Why `nth` keeps its contract.
 use Rattle.links.proofs.Orders.{here-at, here-row, found}
 use Rattle.links.proofs.Rows.nth.Needs as need
 

@@ -1,3 +1,4 @@
+-- Why `put` keeps its contract.
 use mathlib.Core.Path.{_∙_}
 use Rattle.links.proofs.Entries.{enters-last, at-last}
 use Rattle.links.proofs.Rows.put.Needs as need

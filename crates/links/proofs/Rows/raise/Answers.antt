@@ -1,11 +1,11 @@
-use Prim.Native.Nat.{ℕ, max, _+_, _<_, _≤_}
-use mathlib.Core.Path.{_≡_, refl, _∙_, sym, ap, subst}
+-- Why `raise` keeps its contract.
+use Prim.Native.Nat.{max}
+use mathlib.Core.Path.{refl, _∙_, sym, ap}
 use native.Mathlib.Omega.{arith}
-use lib.ListN.{set, getD, length}
+use lib.ListN.{set, getD}
 use Rattle.links.specs.Cells.{cells, levels}
-use Rattle.links.specs.Ring.{Enters}
 use Rattle.links.proofs.Heads.{some-row}
-use Rattle.links.proofs.Levels.{Rounds, rounds-step, ring-only, head-kept}
+use Rattle.links.proofs.Levels.{rounds-step, ring-only, head-kept}
 use Rattle.links.proofs.Entries.{enters-place}
 use Rattle.links.proofs.Rows.raise.Needs as need
 

@@ -1,5 +1,5 @@
-use mathlib.Core.Path.{refl, _∙_, sym, ap, subst}
-use mathlib.Core.List.{_∷_}
+-- Why `remove` keeps its contract.
+use mathlib.Core.Path.{refl, _∙_}
 use native.Mathlib.Omega.{arith}
 use Rattle.links.proofs.Rings.{sides-fit, sides-some}
 use Rattle.links.proofs.Inserts.{sinking-starts, sides-with, midway-step, leaving-ends, leads-back, risen}

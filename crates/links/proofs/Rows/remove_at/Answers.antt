@@ -1,4 +1,5 @@
-use Prim.Native.Nat.{ℕ, _+_, _-_}
+-- Why `remove_at` keeps its contract.
+use Prim.Native.Nat.{_+_, _-_}
 use mathlib.Core.Path.{_≡_}
 use native.Mathlib.Omega.{arith}
 use Rattle.links.proofs.Orders.{here-at, removed}

@@ -1,3 +1,4 @@
+-- Why `row_at` keeps its contract.
 use Prim.Native.Nat.{ℕ, _+_, _-_, _<_}
 use mathlib.Core.Path.{_≡_, refl}
 use native.Mathlib.Omega.{arith}

@@ -1,3 +1,4 @@
+-- Why `set_link` keeps its contract.
 use mathlib.Core.Path.{refl}
 use Rattle.links.proofs.Heads.{wrote-behind, wrote-head, in-rows}
 use Rattle.links.proofs.Rows.set_link.Needs as need

@@ -1,8 +1,8 @@
+-- Why `thread` keeps its contract.
 use Prim.Native.Nat.{_<_}
-use mathlib.Core.Path.{_∙_, ap, subst, sym}
+use mathlib.Core.Path.{_∙_, subst, sym}
 use native.Mathlib.Omega.{arith}
 use lib.ListN.{length}
-use Rattle.links.specs.Cells.{levels, cells}
 use Rattle.links.proofs.Rings.{sides-fit, threads-in, threads-over, only-twice}
 use Rattle.links.proofs.Rows.thread.Needs as need
 

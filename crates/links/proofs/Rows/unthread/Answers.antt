@@ -1,3 +1,4 @@
+-- Why `unthread` keeps its contract.
 use native.Mathlib.Omega.{arith}
 use Rattle.links.proofs.Rings.{sides-fit, sides-some, unthreads}
 use Rattle.links.proofs.Rows.unthread.Needs as need

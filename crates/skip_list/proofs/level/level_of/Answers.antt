@@ -1,6 +1,7 @@
+-- Why `level_of` keeps its contract.
 use native.Mathlib.Omega.{arith}
 use Rattle.skip_list.specs.Level.{limits}
-use Rattle.skip_list.proofs.Draws.{more-over, more-under, exceeding-le}
+use Rattle.skip_list.proofs.Draws.{more-over, more-under}
 use Rattle.skip_list.proofs.level.level_of.Needs as need
 use Rattle.skip_list.proofs.level.level_of.Needs.{then-draw-limit, else-draw-limit}
 

@@ -1,3 +1,4 @@
+-- Why `play` keeps its contract.
 use Prim.Native.Nat.{ℕ}
 use mathlib.Core.Path.{sym, subst}
 use mathlib.Core.List.{[]}

@@ -1,3 +1,4 @@
+-- Why `head_links` keeps its contract.
 use native.Mathlib.Omega.{arith}
 use Prim.Native.Nat.{_≤_}
 use mathlib.Core.Path.{_≡_, ap, subst, sym, _∙_}

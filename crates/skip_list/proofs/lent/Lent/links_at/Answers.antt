@@ -1,11 +1,9 @@
+-- Why `links_at` keeps its contract.
 use native.Mathlib.Omega.{arith}
-use Prim.Native.Nat.{ℕ, suc, _+_, _<_, _≤_}
-use mathlib.Core.Path.{_≡_, ap, subst, sym, _∙_}
-use lib.ListN.{getD}
-use Rattle.order.specs.Order.{At}
+use Prim.Native.Nat.{suc, _≤_}
+use mathlib.Core.Path.{subst, sym, _∙_}
 use Rattle.links.specs.declared.Link.{Link}
-use Rattle.skip_list.specs.Lent.{size, used}
-use Rattle.skip_list.specs.Tower.{highs}
+use Rattle.skip_list.specs.Lent.{size}
 use Rattle.skip_list.proofs.Laws.{ahead-low, back-low, row-fits, row-linked, links-are}
 use Rattle.skip_list.proofs.lent.Lent.links_at.Needs as need
 

@@ -1,6 +1,7 @@
+-- Why `named` keeps its contract.
 use native.Mathlib.Omega.{arith}
 use Prim.Native.Nat.{ℕ, _<_}
-use mathlib.Core.Path.{_≡_, ap, sym}
+use mathlib.Core.Path.{ap, sym}
 use Rattle.std.specs.declared.option.Option.{Option}
 use Rattle.skip_list.specs.Lent.{keysOf}
 use Rattle.skip_list.specs.Tower.{keyOf}

@@ -1,9 +1,9 @@
+-- Why `new` keeps its contract.
 use borrow.Author.Needs.{needs}
 use native.Mathlib.Omega.{arith}
-use mathlib.Core.Path.{_≡_, ap, _∙_}
+use mathlib.Core.Path.{ap, _∙_}
 use Prim.Native.Nat.{ℕ}
 use mathlib.Core.List.{List}
-use lib.ListN.{length, length-take}
 use Rattle.skip_list.specs.Tower.{high}
 use Rattle.links.specs.Cells.{cells, levels}
 use Rattle.links.proofs.Orders.{holds-from}

@@ -1,3 +1,4 @@
+-- Why `put` keeps its contract.
 use Rattle.skip_list.specs.declared.lent.Lent.{Lent}
 use Rattle.skip_list.proofs.Moves.{enters-links, used-put, kept-put, highs-put, height-put, ready-put, chained-put}
 use Rattle.skip_list.proofs.lent.Lent.put.Needs as need

@@ -1,3 +1,4 @@
+-- Why `answer` keeps its contract.
 use mathlib.Core.Path.{ap, refl, sym, subst}
 use Rattle.skip_list.specs.declared.call.Answer.the-variants.{Key, Place, Put, Spliced}
 use Rattle.skip_list.specs.declared.call.Call.{Call}

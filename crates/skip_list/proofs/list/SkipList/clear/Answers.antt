@@ -1,3 +1,4 @@
+-- Why `clear` keeps its contract.
 use mathlib.Core.Path.{ap}
 use Rattle.skip_list.specs.Lent.{keysOf, picked}
 use mathlib.Core.List.{[]}

@@ -1,3 +1,4 @@
+-- Why `head_links` keeps its contract.
 use native.Mathlib.Omega.{arith}
 use Rattle.links.proofs.Heads.{levels-head}
 use mathlib.Core.Path.{refl}

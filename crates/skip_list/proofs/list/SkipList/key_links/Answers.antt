@@ -1,3 +1,4 @@
+-- Why `key_links` keeps its contract.
 use native.Mathlib.Omega.{arith}
 use Rattle.skip_list.proofs.Picks.{stands}
 use Rattle.skip_list.proofs.Sounds.{ready-list, found-used, found-at, none-at}

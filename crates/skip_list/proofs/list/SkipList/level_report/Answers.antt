@@ -1,4 +1,5 @@
-use mathlib.Core.Path.{refl, sym, subst}
+-- Why `level_report` keeps its contract.
+use mathlib.Core.Path.{sym, subst}
 use Rattle.skip_list.specs.Lent.{kept, Sound}
 use Rattle.skip_list.specs.Tower.{highs, Leveled}
 use Rattle.std.specs.declared.option.Option.the-variants.{Some}

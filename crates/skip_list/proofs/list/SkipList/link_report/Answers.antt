@@ -1,3 +1,4 @@
+-- Why `link_report` keeps its contract.
 use mathlib.Core.Path.{sym, subst}
 use Rattle.skip_list.specs.Lent.{kept, Sound}
 use Rattle.skip_list.specs.Tower.{Linked, height, highs}

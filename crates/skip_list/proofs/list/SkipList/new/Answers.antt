@@ -1,14 +1,10 @@
-use native.Mathlib.Omega.{arith}
-use mathlib.Core.Path.{_≡_, sym, ap, subst, _∙_}
+-- Why `new` keeps its contract.
+use mathlib.Core.Path.{sym, ap, subst}
 use Prim.Native.Nat.{ℕ}
-use mathlib.Core.List.{List}
 use Rattle.skip_list.specs.Memory.{Usable}
-use mathlib.Core.Logic.{∥∥₁-map}
 use denote.Ref.{now}
 use lib.ListN.{length}
-use Rattle.order.specs.Order.{Distinct}
-use Rattle.index.specs.Index.{Index, homes}
-use Rattle.skip_list.specs.Lent.{keysOf, picked, kept, Chained}
+use Rattle.skip_list.specs.Lent.{keysOf, picked}
 use mathlib.Core.List.{[]}
 use Rattle.skip_list.proofs.Histories.{tells}
 use Rattle.skip_list.proofs.Sounds.{usable-fits, emptied, sound-none}

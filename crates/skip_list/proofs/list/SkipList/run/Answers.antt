@@ -1,3 +1,4 @@
+-- Why `run` keeps its contract.
 use native.Mathlib.Omega.{arith}
 use mathlib.Core.Path.{_∙_, subst}
 use mathlib.Core.List.{List}

@@ -1,3 +1,4 @@
+-- What the loop of `run` keeps from turn to turn.
 use mathlib.Core.Path.{_≡_}
 use mathlib.Core.List.{List, map}
 use lib.ListN.{take}

@@ -1,3 +1,4 @@
+-- Why `splice` keeps its contract.
 use native.Mathlib.Omega.{arith}
 use mathlib.Core.Path.{_≡_, ap, refl}
 use lib.ListN.{length}

@@ -1,3 +1,4 @@
+-- What the loop of `splice` keeps from turn to turn.
 use Prim.Native.Nat.{_≤_}
 use mathlib.Core.List.{List}
 use Rattle.skip_list.specs.History.{Deed, Told}

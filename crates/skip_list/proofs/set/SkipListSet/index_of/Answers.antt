@@ -1,3 +1,4 @@
+-- Why `index_of` keeps its contract.
 use mathlib.Core.Path.{refl, sym, subst}
 use Rattle.order.specs.Order.{Found}
 use Rattle.skip_list.specs.Lent.{kept}

@@ -1,9 +1,9 @@
+-- Why `insert_after` keeps its contract.
 use native.Mathlib.Omega.{arith}
 use mathlib.Core.Path.{refl, sym, subst, _∙_}
 use mathlib.Core.List.{List}
 use Rattle.order.specs.Order.{At}
 use Rattle.skip_list.proofs.Histories.{told-next}
-use Rattle.skip_list.proofs.Readies.{length-used}
 use Rattle.skip_list.proofs.Sounds.{ready-list, within, found-used, found-at, none-at, some-found, none-found, after-at}
 use Rattle.skip_list.proofs.set.SkipListSet.insert_after.Needs as need
 

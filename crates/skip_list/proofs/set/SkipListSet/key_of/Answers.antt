@@ -1,3 +1,4 @@
+-- Why `key_of` keeps its contract.
 use native.Mathlib.Omega.{arith}
 use mathlib.Core.Path.{refl}
 use Rattle.skip_list.proofs.Readies.{length-kept}

@@ -1,3 +1,4 @@
+-- Why `length` keeps its contract.
 use native.Mathlib.Omega.{arith}
 use mathlib.Core.Path.{sym}
 use Rattle.skip_list.proofs.Readies.{length-used, length-kept}

@@ -1,3 +1,4 @@
+-- Why `remove_index` keeps its contract.
 use borrow.Author.Needs.{needs}
 use mathlib.Core.Path.{sym, subst}
 use Rattle.order.specs.Order.{At}

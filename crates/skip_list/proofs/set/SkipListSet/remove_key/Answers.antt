@@ -1,4 +1,4 @@
-use native.Mathlib.Omega.{arith}
+-- Why `remove_key` keeps its contract.
 use mathlib.Core.Path.{_≡_, refl, sym, ap, subst}
 use mathlib.Core.Logic.{∥∥₁-map}
 use lib.ListN.{length}
