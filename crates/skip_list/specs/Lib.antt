@@ -1,4 +1,5 @@
 -- The files of this folder.
+pub mod Examples
 pub mod Faults
 pub mod History
 pub mod Lent

@@ -1,7 +1,7 @@
 // Levels from draws.
 ghost use Prim.Native.Nat.{_<_, _≤_};
 ghost use mathlib.Core.Path.{_≡_};
-ghost use Rattle.skip_list.specs.Level.{Examples, levelOf};
+ghost use Rattle.skip_list.specs.Level.{levelOf};
 
 // A draw below a limit goes one level up.
 const LIMITS: [u32; 15] = [
@@ -35,11 +35,4 @@ pub fn level_of(draw: u32) -> u8
         }
     }
     level
-}
-
-// The worked examples of levels follow from the definition.
-pub fn levels_stand() -> u8
-    ensures { λ _. ⌜ Examples ⌝ }
-{
-    0
 }

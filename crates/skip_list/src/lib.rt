@@ -1,5 +1,6 @@
 // The row list: an indexed skip list over lent rows, which is an ordered set.
 pub mod call;
+pub mod examples;
 pub mod fault;
 mod lent;
 mod lent_links;
