@@ -1,7 +1,8 @@
 -- What a lookup found, in a list whose chains are those of the keys' hashes.
 use Prim.Native.Nat.{ℕ, zero, suc, _+_, _*_, _<_, _≤_}
 use mathlib.Core.Path.{_≡_, refl, sym, ap, subst, _∙_}
-use mathlib.Core.Logic.{⊎-elim, ∥∥₁-elim, ∥∥₁-map}
+use mathlib.Core.HLevel.{Π-prop, ×-prop, →-prop}
+use mathlib.Core.Logic.{⊎-elim, ∥∥₁-elim, ∥∥₁-map, ∥∥₁-prop}
 use mathlib.Core.Bool.{true, false, cond}
 use mathlib.Core.List.{List, [], _∷_}
 use native.Mathlib.Omega.{arith}
@@ -147,3 +148,7 @@ usable-fits keys rows slots n e = ⊎-elim
     (λ q. (q .1 .1, (omega (arith, q .0), (omega (arith, q .0), omega (arith, q .1 .2)))))
     (λ q. (omega (arith, q .0), (omega (arith, q .0), (omega (arith, q .0), omega (arith, q .0)))))
     e
+
+-- Soundness has one proof at most, so a struct over a row list can state it in a ghost field.
+pub sound-prop : {A : Type 0} (identity : A → List ℕ) (hashed : List ℕ → ℕ) (s : Lent A) → IsProp (Sound s identity hashed)
+sound-prop identity hashed s = ×-prop ∥∥₁-prop (Π-prop (λ i. Π-prop (λ j. Π-prop (λ x. →-prop (→-prop (ℕ-set i j))))))
