@@ -23,7 +23,7 @@ pub bounded : (p q : Console Rules Yard) (line out left : List ℕ) (r : Result 
     → Tight p q out left r → (1024 ≤ length out → Answered rules yard p q line out left r) → Bounded r
 bounded p q line out left r tight answered =
     elim (cases-lt (length out) 1024) [
-      | inl l ↦ subst Bounded (sym (tight l .0)) tt
+      | inl l ↦ subst Bounded (sym (tight .0 l .0)) tt
       | inr h ↦
           let a = answered h in
           let e = length-push (a .text) 10 in

@@ -1,9 +1,9 @@
 -- A command done: its call on the panel, and its answer as a text.
 use Prim.Native.Nat.{ℕ, _≤_}
-use mathlib.Core.Path.{_≡_, refl, sym, ap, subst, _∙_}
+use mathlib.Core.Path.{_≡_, refl, sym, ap, subst}
 use mathlib.Core.Logic.{inl, inr}
 use mathlib.Core.List.{List, [], _∷_}
-use mathlib.Core.Bool.{false}
+use mathlib.Core.Bool.{true, false}
 use native.Mathlib.Omega.{arith}
 use lib.ListN.{length}
 use Rattle.std.specs.Results.{isOk}
@@ -20,11 +20,11 @@ use Rattle.book.specs.declared.call.Turn.{Turn}
 use Rattle.book.specs.declared.fault.BookFault.{BookFault}
 use Rattle.book.specs.declared.fault.BookFault.the-variants.{BadRule}
 use Rattle.book.specs.Books.{Lists, pages}
-use Rattle.book.specs.Calls.{Carries, accepted, placed, sent, turn}
+use Rattle.book.specs.Calls.{Carries, placed, sent, still, turn}
 use Rattle.book.specs.Yards.{Sound, board, frame}
-use Rattle.book.proofs.Carrying.{refused-placed, refused-sent}
-use Rattle.line.specs.Answers.{printed, refusedText}
-use Rattle.line.specs.Consoles.{Brief, Declined, Done, departing, placing, settled}
+use Rattle.book.proofs.Carrying.{stays-placed}
+use Rattle.line.specs.Answers.{printed}
+use Rattle.line.specs.Consoles.{Brief, Done, Still, departing, placing, settled}
 use Rattle.line.specs.Grammar.{Asked, listing}
 use Rattle.line.specs.Replies.{Calls, Shows, Unfit, drawing}
 use Rattle.line.specs.declared.answer.Answer.{Answer}
@@ -43,16 +43,16 @@ shows-sent (Ok (Some d)) = refl
 shows-sent (Ok None) = refl
 shows-sent (Err f) = refl
 
--- of one turn, declined or not
-declined-one : (t : Turn) → Declined (t ∷ []) → accepted (t .answer) ≡ false
-declined-one t none = none 0 t (omega arith, refl)
+-- of one turn
+still-one : (t : Turn) → Still (t ∷ []) → still (t .answer) ≡ true
+still-one t none = none 0 t (omega arith, refl)
 
 module _ {R Y : Type 0} (r : Ghosts R RuleNumber) (y : Ghosts Y TrainTag) (p q : Console R Y) (a : Asked) (drawn : q .draws .state ≡ drawing a (p .draws .state)) where
   -- a call was made
   done-call : (call : Call) (answer : answers.Answer) (text : List ℕ) → Calls a (q .draws .state) call → Shows answer text
       → (Sound r y (p .panel) → Sound r y (q .panel))
       → (Sound r y (p .panel) → Carries call answer (board r y (p .panel)) (board r y (q .panel)))
-      → (Sound r y (p .panel) → accepted answer ≡ false → frame r y (q .panel) ≡ frame r y (p .panel))
+      → (Sound r y (p .panel) → still answer ≡ true → frame r y (q .panel) ≡ frame r y (p .panel))
       → length text ≤ 1023
       → Done r y p q a text
   done-call call answer text calls shows lasts carries kept brief = record {
@@ -61,7 +61,7 @@ module _ {R Y : Type 0} (r : Ghosts R RuleNumber) (y : Ghosts Y TrainTag) (p q :
     replies = λ sound. (
       turn call answer ∷ [],
       inl (record { call = call; answer = answer; calls = calls; carries = carries sound; shows = shows; turns = refl }),
-      λ none. kept sound (declined-one (turn call answer) none),
+      λ none. kept sound (still-one (turn call answer) none),
     );
     brief = λ _. brief;
   }
@@ -74,17 +74,17 @@ module _ {R Y : Type 0} (r : Ghosts R RuleNumber) (y : Ghosts Y TrainTag) (p q :
       → Done r y p q a (printed (settled out))
   done-placed call res out is calls lasts carries kept brief =
       done-call call (placed res) _ calls (subst (λ (o : Result Answer LineFault). Shows (placed res) (printed (settled o))) (sym is) (shows-placed res)) lasts carries
-      (λ sound no. kept sound (refused-placed (placed res) res refl no)) brief
+      (λ sound no. kept sound (stays-placed (placed res) res refl no)) brief
 
   pub done-sent : (call : Call) (res : Result (Option (TrainTag × ℕ × ℕ)) BookFault) (out : Result Answer LineFault) → out ≡ departing res → Calls a (q .draws .state) call
       → (Sound r y (p .panel) → Sound r y (q .panel))
       → (Sound r y (p .panel) → Carries call (sent res) (board r y (p .panel)) (board r y (q .panel)))
-      → (Sound r y (p .panel) → isOk res ≡ false → frame r y (q .panel) ≡ frame r y (p .panel))
+      → (Sound r y (p .panel) → still (sent res) ≡ true → frame r y (q .panel) ≡ frame r y (p .panel))
       → Brief out
       → Done r y p q a (printed (settled out))
   done-sent call res out is calls lasts carries kept brief =
       done-call call (sent res) _ calls (subst (λ (o : Result Answer LineFault). Shows (sent res) (printed (settled o))) (sym is) (shows-sent res)) lasts carries
-      (λ sound no. kept sound (refused-sent (sent res) res refl no)) brief
+      kept brief
 
   -- the rule was not lawful
   pub done-unfit : (out : Result Answer LineFault) → out ≡ Err (Book BadRule) → Unfit a → q .panel ≡ p .panel → Done r y p q a (printed (settled out))

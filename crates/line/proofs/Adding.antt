@@ -1,5 +1,5 @@
 -- One write after another.
-use Prim.Native.Nat.{ℕ, suc, _+_, _/_, _%_, _^_, _<_, _≤_}
+use Prim.Native.Nat.{ℕ, _+_, _/_, _%_, _^_, _<_, _≤_}
 use mathlib.Core.Path.{_≡_, refl, sym, ap, subst, _∙_}
 use mathlib.Core.List.{List, [], _∷_, _++_, append-nil, append-assoc}
 use native.Mathlib.Omega.{arith}
@@ -8,7 +8,7 @@ use lib.ListN.{length, take, drop, take-append-drop, length-append}
 use lib.Seq.{drop-drop}
 use Rattle.std.proofs.shelf.Decimals.{decimal-digit, decimal-step}
 use Rattle.std.specs.Written.{decimal}
-use Rattle.line.specs.Pages.{Adds, Puts, Room}
+use Rattle.line.specs.Pages.{Adds, Puts}
 use Rattle.line.specs.Printing.{Prints, lined}
 use Rattle.line.specs.declared.page.Page.{Page}
 

@@ -1,17 +1,12 @@
 -- What the reader has read, by its state.
-use Prim.Native.Nat.{ℕ, zero, suc, _+_, _-_, _*_, _/_, _%_, _^_, _<_, _≤_}
-use mathlib.Core.Path.{_≡_, refl, sym, ap, subst, _∙_}
-use mathlib.Core.Logic.{⊎-elim}
-use mathlib.Core.Bool.{Bool, true, false, cond}
+use Prim.Native.Nat.{ℕ, _+_, _-_, _*_, _/_, _%_, _^_, _<_, _≤_}
+use mathlib.Core.Path.{_≡_, refl, _∙_}
+use mathlib.Core.Bool.{true, false, cond}
 use mathlib.Core.List.{List, [], _∷_, _++_, append-nil, append-assoc}
 use native.Mathlib.Omega.{arith}
-use lib.Pow.{pow-mono, pow-pos, pow-lt}
-use native.Mathlib.Nat.{zero-add, suc-add, pow-suc, mod-eq-of-lt, add-mod-right}
-use borrow.Author.Needs.{needs}
-use borrow.Author.Tests.{ne-eqb, eq-eqb, eqb-true, eqb-false, lt-ltb, le-ltb, ltb-true, ltb-false}
+use borrow.Author.Tests.{ne-eqb, eqb-true, eqb-false, lt-ltb, le-ltb, ltb-true, ltb-false}
 use lib.Dec.{eqb, ltb}
-use lib.ListN.{length}
-use Rattle.std.proofs.shelf.Tests.{cases-bool, cases-lt, cond-both}
+use Rattle.std.proofs.shelf.Tests.{cond-both}
 use Rattle.std.proofs.shelf.Decimals.{decimal-digit, decimal-step, decimal-by-steps}
 use Rattle.std.specs.Written.{decimal}
 use Rattle.line.specs.Grammar.{Capitals as Rises, Rising}

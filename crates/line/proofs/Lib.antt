@@ -1,7 +1,8 @@
--- The proofs, from a field of a line to a whole session.
+-- The proofs, from a field of a line to a whole dialogue.
 pub mod Acting
 pub mod Adding
 pub mod Brief
+pub mod Fields
 pub mod Held
 pub mod Lining
 pub mod Lists

@@ -1,6 +1,6 @@
 -- A line done: what it says was done, or it says nothing and is refused.
 use Prim.Native.Nat.{ℕ, _<_, _≤_}
-use mathlib.Core.Path.{_≡_, refl, sym, ap, subst, _∙_}
+use mathlib.Core.Path.{_≡_, refl, sym, ap, subst}
 use mathlib.Core.Logic.{inl, inr, ⊎-elim}
 use mathlib.Core.Bool.{false}
 use mathlib.Core.List.{List, []}
@@ -30,7 +30,7 @@ use Rattle.line.specs.Answers.{listText, printed, refusedText}
 use Rattle.line.specs.Consoles.{Acted, Done, Numbered, Ready, settled, stand}
 use Rattle.line.specs.Grammar.{Asked, Says, listing}
 use Rattle.line.specs.Replies.{Called, Replies, Unfit}
-use Rattle.line.specs.Sessions.{opening}
+use Rattle.line.specs.Dialogues.{opening}
 use Rattle.line.specs.declared.answer.Answer.{Answer}
 use Rattle.line.specs.declared.console.Console.{Console}
 use Rattle.line.specs.declared.fault.LineFault.{LineFault}

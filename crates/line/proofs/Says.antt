@@ -1,16 +1,15 @@
 -- A line is its words with one space between them.
-use Prim.Native.Nat.{ℕ, _+_, _^_, _<_}
-use mathlib.Core.Path.{_≡_, refl, sym, ap, subst, _∙_}
+use Prim.Native.Nat.{ℕ, _<_}
+use mathlib.Core.Path.{_≡_, refl, sym, ap, _∙_}
 use mathlib.Core.Logic.{⊎-elim}
-use mathlib.Core.Bool.{true, false, cond}
+use mathlib.Core.Bool.{true, false}
 use mathlib.Core.List.{List, [], _∷_, _++_}
 use native.Mathlib.Omega.{arith}
-use borrow.Author.Tests.{eqb-true, eqb-false, ne-eqb}
+use borrow.Author.Tests.{eqb-true, ne-eqb}
 use lib.Dec.{eqb}
 use lib.ListN.{length, getD}
 use Rattle.std.proofs.shelf.Parts.{first-rest}
 use Rattle.std.specs.Holes.{between}
-use Rattle.std.specs.declared.option.Option.the-variants.{None}
 use Rattle.std.proofs.shelf.Tests.{cases-bool, cond-both}
 use Rattle.std.specs.Written.{decimal}
 use Rattle.std.specs.shelf.Lists.{All}
@@ -20,7 +19,7 @@ use Rattle.line.specs.declared.field.Class.the-variants.{Space, Digit, Capital
 use Rattle.line.specs.States.{classed, moved, stepped, walked}
 use Rattle.line.specs.Words.{word, fields, spread}
 use Rattle.line.specs.declared.field.State.{State}
-use Rattle.line.specs.declared.field.State.the-variants.{Number, Zero, Digits, Capitals, Risen, Byte, One, Bad}
+use Rattle.line.specs.declared.field.State.the-variants.{Number, Zero, Digits, Capitals, Bad}
 use Rattle.line.proofs.Held.{walk-capitals, walk-decimal}
 
 -- no space stands in w

@@ -1,4 +1,4 @@
--- A line's turns go on with the panel's history, and so does a session.
+-- A line's turns go on with the panel's history, and so does a dialogue.
 use Prim.Native.Nat.{ℕ, _≤_}
 use mathlib.Core.Path.{_≡_, refl, sym, ap, subst, _∙_}
 use mathlib.Core.Logic.{⊎-elim}
@@ -10,8 +10,7 @@ use Rattle.std.specs.declared.result.Result.the-variants.{Ok}
 use Rattle.order.specs.declared.keys.RuleNumber.{RuleNumber}
 use Rattle.order.specs.declared.keys.TrainTag.{TrainTag}
 use Rattle.order.specs.declared.set.OrderedSet.{Ghosts}
-use Rattle.book.specs.Calls.{turn}
-use Rattle.book.specs.Law.{Follows, GoesOn, RouteLaw}
+use Rattle.book.specs.Law.{Follows, GoesOn}
 use Rattle.book.specs.Pages.{listing as ruledNumbers}
 use Rattle.book.specs.Yards.{Board}
 use Rattle.book.specs.declared.call.Turn.{Turn}
@@ -21,9 +20,9 @@ use Rattle.book.proofs.Following.{as-history, begins-at}
 use Rattle.line.specs.Answers.{listText, printed, refusedText}
 use Rattle.line.specs.Consoles.{Acted, Answered, settled, stand}
 use Rattle.line.specs.Grammar.{Asked, Says, listing}
-use Rattle.line.specs.Printing.{Prints, fronted, lined}
+use Rattle.line.specs.Printing.{Prints, lined}
 use Rattle.line.specs.Replies.{Called, Performs, Replies, Stand, Unfit, drawing}
-use Rattle.line.specs.Sessions.{Exchange, Session, Vacant, exchange}
+use Rattle.line.specs.Dialogues.{Exchange, Dialogue, Vacant}
 use Rattle.line.specs.declared.answer.Answer.{Answer}
 use Rattle.line.specs.declared.console.Console.{Console}
 use Rattle.line.specs.declared.fault.LineFault.{LineFault}
@@ -48,13 +47,13 @@ performs-on line text ts u x did =
     (λ (d : ((a : Asked) → Says line a → ⊥) × (text ≡ refusedText BadLine) × (ts ≡ []) × (x ≡ u)). stays ts (u .board) (x .board) (d .2) (ap (λ (s : Stand). s .board) (d .3)))
     did
 
--- a session from a vacant start is a lawful history
-pub session-follows : (start : Stand) (past : List Exchange) (ts : List Turn) (x : Stand) → Vacant start → Session start past ts x → Follows (start .board) ts (x .board)
-session-follows start [] ts x vacant (none, same) =
+-- a dialogue from a vacant start is a lawful history
+pub dialogue-follows : (start : Stand) (past : List Exchange) (ts : List Turn) (x : Stand) → Vacant start → Dialogue start past ts x → Follows (start .board) ts (x .board)
+dialogue-follows start [] ts x vacant (none, same) =
     as-history (start .board) [] ts (x .board) (sym none) (begins-at (start .board) (x .board) (ap (λ (s : Stand). s .board) same) (vacant .0) (vacant .1))
-session-follows start (e ∷ past) ts x vacant (u, before, made, so-far, did, is) =
+dialogue-follows start (e ∷ past) ts x vacant (u, before, made, so-far, did, is) =
     as-history (start .board) (before ++ made) ts (x .board) (sym is)
-    (performs-on (e .line) (e .text) made u x did (start .board) before (session-follows start past before u vacant so-far) .0)
+    (performs-on (e .line) (e .text) made u x did (start .board) before (dialogue-follows start past before u vacant so-far) .0)
 
 module _ {R Y : Type 0} (r : Ghosts R RuleNumber) (y : Ghosts Y TrainTag) (p q : Console R Y) (line : List ℕ) where
   pub answered : (res : Result Answer LineFault) (answer : Answer) (out left : List ℕ) (n : ℕ) → answer ≡ settled res → 1024 ≤ length out
@@ -71,6 +70,6 @@ module _ {R Y : Type 0} (r : Ghosts R RuleNumber) (y : Ghosts Y TrainTag) (p q :
         length-is = ap (λ k. Ok k) (p′ .0);
         left-is = p′ .1;
         goes-on = on;
-        session = λ start past ts so-far. (stand r y p, ts, acted .turns, so-far, acted .performs, refl);
-        law = λ start past ts vacant so-far. on (start .board) ts (session-follows start past ts (stand r y p) vacant so-far) .1;
+        dialogue = λ start past ts so-far. (stand r y p, ts, acted .turns, so-far, acted .performs, refl);
+        law = λ start past ts vacant so-far. on (start .board) ts (dialogue-follows start past ts (stand r y p) vacant so-far) .1;
       }

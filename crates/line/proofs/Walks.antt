@@ -1,19 +1,16 @@
 -- The reader's walk over a word, and the words of a line.
-use Prim.Native.Nat.{ℕ, _+_, _-_, _<_, _≤_}
-use mathlib.Core.Path.{_≡_, refl, sym, ap, subst, _∙_}
+use Prim.Native.Nat.{ℕ}
+use mathlib.Core.Path.{_≡_, refl, sym, ap}
 use mathlib.Core.Logic.{⊎-elim}
-use mathlib.Core.Bool.{Bool, true, false, cond}
+use mathlib.Core.Bool.{true, false}
 use mathlib.Core.List.{List, [], _∷_, _++_}
-use native.Mathlib.Omega.{arith}
-use borrow.Author.Tests.{ne-eqb, eq-eqb, eqb-true, eqb-false}
-use lib.Dec.{eqb, ltb}
-use lib.ListN.{length}
+use borrow.Author.Tests.{ne-eqb}
+use lib.Dec.{eqb}
 use Rattle.std.proofs.shelf.Tests.{cases-bool}
 use Rattle.line.specs.Words.{word, rest, fields}
 use Rattle.line.specs.States.{stepped, walked}
 use Rattle.line.specs.Lines.{ended, next}
 use Rattle.line.specs.declared.field.State.{State}
-use Rattle.line.specs.declared.field.State.the-variants.{Bad}
 
 pub further : (s : State) (xs : List ℕ) (b : ℕ) (ys : List ℕ) → xs ≡ b ∷ ys → (b ≡ 32 → ⊥) → (walked (stepped s b) (word ys) ≡ walked s (word xs)) × (rest ys ≡ rest xs)
 further s xs b ys e n = let t = ne-eqb b 32 n in let w : word xs ≡ b ∷ word ys = rw (e, t) in (ap (walked s) (sym w), rw (e, t))

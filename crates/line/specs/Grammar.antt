@@ -1,4 +1,10 @@
 -- What a line says: a command's letter, and each of its fields after one space.
+--     asked c          what the command c asks for
+--     Lawful a         its fields may be so
+--     written a        its written form
+--     Line bs          the bytes are at most 80, no newline among them
+--     Says line a      the line is the written form of what is asked
+--     Reads line r     the command that the line says, or BadLine where it says none
 use Prim.Native.Nat.{ℕ, _^_, _<_, _≤_}
 use mathlib.Core.Path.{_≡_}
 use mathlib.Core.List.{List, [], _∷_}
@@ -86,7 +92,7 @@ written a = letter a ∷ spread (spelt a)
 abbrev pub Says : List ℕ → Asked → Type 0
 Says line a = Line line × Lawful a × (line ≡ written a)
 
--- the command just where the bytes say one
+-- the one command that the line says, just where it says one
 abbrev pub Reads : List ℕ → Result Command LineFault → Type 0
-Reads line (Ok c) = Says line (asked c)
+Reads line (Ok c) = Says line (asked c) × ((a : Asked) → Says line a → a ≡ asked c)
 Reads line (Err f) = (f ≡ BadLine) × ((a : Asked) → Says line a → ⊥)

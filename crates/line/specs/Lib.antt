@@ -1,6 +1,7 @@
--- The words of the contracts, from the bytes of a line to a session of lines.
+-- The words of the contracts, from the bytes of a line to a dialogue of lines.
 pub mod Answers
 pub mod Consoles
+pub mod Dialogues
 pub mod Draws
 pub mod Faults
 pub mod Grammar
@@ -8,6 +9,5 @@ pub mod Lines
 pub mod Pages
 pub mod Printing
 pub mod Replies
-pub mod Sessions
 pub mod States
 pub mod Words

@@ -83,9 +83,18 @@ bind (Some x) k = k x
 abbrev pub end : List ℕ → Asked → Option Asked
 end left c = cond (eqb (length left) 0) (Some c) None
 
+-- the letter's fields one after the other, and then the end
 abbrev pub said : ℕ → List ℕ → Option Asked
 said l x =
-    (cond (eqb l 65) (bind (aNumber x) (λ n. bind (aNumber (next x)) (λ p. bind (aNumber (next (next x))) (λ f. bind (aNumber (next (next (next x)))) (λ t. bind (aCapitals (next (next (next (next x))))) (λ s. bind (aNumber (next (next (next (next (next x)))))) (λ r. end (next (next (next (next (next (next x)))))) (adding n p f t s r))))))))
+    (cond (eqb l 65)
+    (bind (aNumber x) (λ n.
+    bind (aNumber (next x)) (λ p.
+    bind (aNumber (next (next x))) (λ f.
+    bind (aNumber (next (next (next x)))) (λ t.
+    bind (aCapitals (next (next (next (next x))))) (λ s.
+    bind (aNumber (next (next (next (next (next x)))))) (λ r.
+    end (next (next (next (next (next (next x)))))) (adding n p f t s r)))))))
+    )
     (cond (eqb l 68) (bind (aNumber x) (λ n. end (next x) (dropping n)))
     (cond (eqb l 77) (bind (aNumber x) (λ n. bind (aNumber (next x)) (λ p. end (next (next x)) (moving n p))))
     (cond (eqb l 84) (bind (aMark x) (λ b. bind (aNumber (next x)) (λ m. end (next (next x)) (joining b m))))

@@ -1,8 +1,5 @@
 // What a line is answered, and how it is printed.
-ghost use mathlib.Core.Path.{_≡_};
 ghost use mathlib.Core.List.{map};
-ghost use Prim.Native.Nat.{ℕ, _+_, _≤_, _<_};
-ghost use lib.ListN.{length};
 ghost use Rattle.std.specs.Written.{decimal};
 ghost use Rattle.line.specs.Answers.{listText, placedText, printed, refusedText, sentText};
 ghost use Rattle.line.specs.Pages.{Puts};

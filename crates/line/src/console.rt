@@ -2,7 +2,7 @@
 ghost use mathlib.Core.Path.{_≡_};
 ghost use mathlib.Core.List.{[]};
 ghost use Rattle.line.specs.Consoles.{Ready, stand};
-ghost use Rattle.line.specs.Sessions.{Session, opening};
+ghost use Rattle.line.specs.Dialogues.{Dialogue, opening};
 use crate::draws::Draws;
 use book::panel::Panel;
 use order::key::Key;
@@ -12,7 +12,7 @@ use order::keys::TrainTag;
 use order::keys::TrainTagKey;
 use order::set::OrderedSet;
 
-pub mod act;
+mod act;
 pub mod answer;
 
 #[derive(Drop)]
@@ -22,17 +22,16 @@ pub struct Console<R, Y> {
 }
 
 impl<R: OrderedSet<RuleNumber>, Y: OrderedSet<TrainTag>> Console<R, Y> {
-    // A console over two sets, with no rules yet; its draws start from 1, and a session begins.
+    // A console over two sets, with no rules yet; its draws start from 1, and a dialogue begins.
     pub fn new(rules: R, yard: Y) -> Console<R, Y>
         ensures means { λ r. ⌜ stand R·OrderedSet Y·OrderedSet r ≡ opening R·OrderedSet Y·OrderedSet rules yard ⌝ }
         ensures rules { λ r. ⌜ r .panel .book .set ≡ rules ⌝ }
         ensures yard { λ r. ⌜ r .panel .yard ≡ yard ⌝ }
         ensures ready { λ r. ⌜ (R·OrderedSet .sound rules → Y·OrderedSet .sound yard → Ready R·OrderedSet Y·OrderedSet r) ⌝ }
-        ensures begins { λ r. ⌜ Session (opening R·OrderedSet Y·OrderedSet rules yard) [] [] (stand R·OrderedSet Y·OrderedSet r) ⌝ }
+        ensures begins { λ r. ⌜ Dialogue (opening R·OrderedSet Y·OrderedSet rules yard) [] [] (stand R·OrderedSet Y·OrderedSet r) ⌝ }
     {
-        Console {
-            panel: Panel::new(rules, yard),
-            draws: Draws::new(),
-        }
+        let panel = Panel::new(rules, yard);
+        let draws = Draws::new();
+        Console { panel, draws }
     }
 }

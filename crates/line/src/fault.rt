@@ -36,9 +36,9 @@ impl LineFault {
 
 // A refusal of the book climbs with its number and word.
 pub impl From<BookFault> for LineFault as BookLineFault {
-    ghost converts = { λ fault r. r ≡ Book fault };
+    ghost converts = { λ refusal r. r ≡ Book refusal };
 
-    fn from(fault: BookFault) -> LineFault {
-        LineFault::Book(fault)
+    fn from(refusal: BookFault) -> LineFault {
+        LineFault::Book(refusal)
     }
 }

@@ -1,6 +1,5 @@
 // Reading a line field by field: the reader's state changes with each byte.
 ghost use mathlib.Core.Path.{_≡_};
-ghost use Prim.Native.Nat.{ℕ, _+_, _-_, _*_, _<_, _≤_};
 ghost use Rattle.line.specs.Lines.{aCapitals, aMark, aNumber, ended, held, markOf, next, numberOf};
 ghost use Rattle.line.specs.States.{classed, stepped, walked};
 ghost use Rattle.line.specs.Words.{rest, word};

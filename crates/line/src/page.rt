@@ -1,8 +1,6 @@
 // Bytes written one after the other at the front of a lent slice; a full page takes no more.
 ghost use mathlib.Core.Path.{_≡_};
 ghost use mathlib.Core.List.{[], _∷_};
-ghost use Prim.Native.Nat.{ℕ, _+_, _≤_, _<_};
-ghost use lib.ListN.{length};
 ghost use Rattle.std.specs.Written.{decimal};
 ghost use Rattle.line.specs.Pages.{Puts};
 

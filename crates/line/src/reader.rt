@@ -1,17 +1,19 @@
 // The command that a line says.
 ghost use mathlib.Core.Path.{_≡_};
-ghost use Prim.Native.Nat.{ℕ, _+_, _≤_};
 ghost use Rattle.std.specs.Orderings.{Decides};
 ghost use Rattle.line.specs.Grammar.{Line, Reads};
-ghost use Rattle.line.specs.Lines.{heard, next, said};
+ghost use Rattle.line.specs.Lines.{heard, said};
 use crate::command::Command;
 use crate::fault::LineFault;
 use crate::field::Reader;
 
+// The most bytes of a line.
+const LONGEST: usize = 80;
+
 fn is_line(bytes: &[u8]) -> bool
     ensures { λ r. ⌜ Decides r (Line (now (bytes .entry))) ⌝ }
 {
-    bytes.len() <= 80 && !bytes.contains(&b'\n')
+    bytes.len() <= LONGEST && !bytes.contains(&b'\n')
 }
 
 // The command of a letter and what is left of the line.

@@ -3,7 +3,7 @@ ghost use Prim.Native.Nat.{_≤_};
 ghost use lib.ListN.{length};
 ghost use mathlib.Core.Path.{_≡_};
 ghost use Rattle.line.specs.Answers.{printed};
-ghost use Rattle.line.specs.Consoles.{Acted, Brief, Done, Lasting, Ready, departing, placing, settled};
+ghost use Rattle.line.specs.Consoles.{Acts, Brief, Done, Lasting, departing, placing, settled};
 ghost use Rattle.line.specs.Grammar.{adding, asked, dropping, joining, listing, moving, sending};
 ghost use Rattle.line.specs.Replies.{tag};
 ghost use Rattle.line.specs.declared.answer.Answer.the-variants.{Sent};
@@ -140,7 +140,7 @@ impl<R: OrderedSet<RuleNumber>, Y: OrderedSet<TrainTag>> Console<R, Y> {
 
     // Does what a line says; a line that says nothing is refused.
     pub(crate) fn act(&mut self, line: &[u8]) -> Result<Answer, LineFault>
-        ensures acts { λ r. ⌜ (Ready R·OrderedSet Y·OrderedSet (now (self .entry)) → Acted R·OrderedSet Y·OrderedSet (now (self .entry)) (now (self .exit)) (now (line .entry)) (printed (settled r))) ⌝ }
+        ensures acts { λ r. ⌜ Acts R·OrderedSet Y·OrderedSet (now (self .entry)) (now (self .exit)) (now (line .entry)) (printed (settled r)) ⌝ }
         ensures ready { λ _. ⌜ Lasting R·OrderedSet Y·OrderedSet (now (self .entry)) (now (self .exit)) ⌝ }
     {
         let command = parse(line)?;

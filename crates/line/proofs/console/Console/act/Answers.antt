@@ -18,6 +18,6 @@ returns-in-Break-command g c =
 
 pub returns : need.returns
 returns g c = record {
-  acts = λ ready. line-done (g .R·OrderedSet) (g .Y·OrderedSet) _ _ _ (asked (c .in-Continue-command .command)) _ (c .in-Continue-command .ensures tt) (c .carry .ensures) ready;
+  acts = λ ready. line-done (g .R·OrderedSet) (g .Y·OrderedSet) _ _ _ (asked (c .in-Continue-command .command)) _ (c .in-Continue-command .ensures tt .0) (c .carry .ensures) ready;
   ready = λ ready. ready-done (g .R·OrderedSet) (g .Y·OrderedSet) _ _ (c .args .line .now) (asked (c .in-Continue-command .command)) _ (c .carry .ensures) ready;
 }

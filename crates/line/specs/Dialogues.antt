@@ -1,5 +1,5 @@
--- A session: lines one after the other, each with its printed answer, and the history of turns that they make.
---     Session start past ts x   from start the exchanges past, the latest first, made the turns ts, the oldest first, and lead to x
+-- A dialogue: lines one after the other, each with its printed answer, and the history of turns that they make.
+--     Dialogue start past ts x   from start the exchanges past, the latest first, made the turns ts, the oldest first, and lead to x
 --     opening r y rules yard    the stand of a new console over two sets
 --     Vacant u                  no number stands in the order, and no train waits
 use Prim.Native.Nat.{ℕ}
@@ -20,11 +20,11 @@ pub record Exchange : Type 0 where
 abbrev pub exchange : List ℕ → List ℕ → Exchange
 exchange line text = record { line = line; text = text }
 
-abbrev pub Session : Stand → List Exchange → List Turn → Stand → Type 0
-Session start [] ts x = (ts ≡ []) × (x ≡ start)
-Session start (e ∷ past) ts x =
+abbrev pub Dialogue : Stand → List Exchange → List Turn → Stand → Type 0
+Dialogue start [] ts x = (ts ≡ []) × (x ≡ start)
+Dialogue start (e ∷ past) ts x =
     (u : Stand) × (before : List Turn) × (made : List Turn)
-    × Session start past before u × Performs (e .line) (e .text) made u x × (ts ≡ before ++ made)
+    × Dialogue start past before u × Performs (e .line) (e .text) made u x × (ts ≡ before ++ made)
 
 abbrev pub Vacant : Stand → Type 0
 Vacant u = (u .board .book .numbers .order ≡ []) × (u .board .yard .order ≡ [])
