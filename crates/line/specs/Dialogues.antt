@@ -1,5 +1,5 @@
 -- A dialogue: lines one after the other, each with its printed answer, and the history of turns that they make.
---     Dialogue start past ts x   from start the exchanges past, the latest first, made the turns ts, the oldest first, and lead to x
+--     Dialogue start past ts x  from start the exchanges past, the latest first, made the turns ts, the oldest first, and lead to x
 --     opening r y rules yard    the stand of a new console over two sets
 --     Vacant u                  no number stands in the order, and no train waits
 use Prim.Native.Nat.{ℕ}
