@@ -3,6 +3,7 @@ mod edges;
 mod model;
 mod piles;
 mod random;
+mod row_list;
 mod sample;
 mod splices;
 mod tally;
@@ -18,6 +19,9 @@ fn main(rt: LibcRuntime) -> io::Result<()> {
     tally.close(&rt, "piles of layers")?;
     splices::examples(&mut tally);
     tally.close(&rt, "push, splice and cursor")?;
+    row_list::examples(&mut tally);
+    tally.close(&rt, "row list")?;
     random::runs(&rt, &mut tally)?;
+    row_list::runs(&rt, &mut tally)?;
     tally.close(&rt, "random runs against the model")
 }

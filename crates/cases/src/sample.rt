@@ -1,4 +1,6 @@
 // Keys made from small numbers, so that one text of checks serves both key types.
+pub mod constant;
+
 use order::fault::SetFault;
 use order::key::Key;
 use order::keys::RuleNumber;

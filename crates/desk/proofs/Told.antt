@@ -7,7 +7,6 @@ use denote.Ref.{now}
 use denote.Struct.Props.{props, ≡-prop, three-prop}
 use Rattle.std.specs.declared.option.Option.{Option}
 use Rattle.std.specs.declared.option.Option.the-variants.{Some, None}
-use Rattle.std.specs.contracts.option.Option.{the-row as option-row}
 use Rattle.order.specs.Keys.{numberHash, tagHash}
 use Rattle.order.specs.Order.{Meaning}
 use Rattle.order.specs.contracts.keys.RuleNumber.{the-row as number-row}
@@ -21,8 +20,6 @@ use Rattle.layers.specs.declared.limit.Limit.{Limit}
 use Rattle.layers.specs.declared.loan.Loan.{Loan}
 use Rattle.skip_list.specs.declared.list.SkipList.{SkipList}
 use Rattle.book.specs.Pages.{Pages}
-use Rattle.book.specs.contracts.rule.Rule.{the-row as rule-row}
-use Rattle.book.specs.declared.rule.Rule.{Rule}
 use Rattle.line.specs.Consoles.{Numbered}
 use Rattle.line.specs.declared.console.Console.{Console}
 use Rattle.desk.specs.Desks.{Prepared, Rules, Yard, numbers, rules, tags, yard}
@@ -54,11 +51,8 @@ yard-prop =
     limited-prop (recalled (lent tags))
     (recalled-prop (lent tags) (lent-prop tags (listed-prop (λ k. k .class ∷ k .number ∷ []) tagHash)) (λ x y. ≡-prop (tag-row .coded) x y))
 
-entry-prop : (x y : Option Rule) → IsProp (x ≡ y)
-entry-prop x y = ≡-prop (option-row rule-row .coded) x y
-
 numbered-prop : (v : Pages) → IsProp (Numbered v)
-numbered-prop v = search (props, entry-prop)
+numbered-prop v = search props
 
 prepared-prop : (p : Console Rules Yard) → IsProp (Prepared p)
 prepared-prop p =

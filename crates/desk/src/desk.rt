@@ -3,7 +3,7 @@ ghost use mathlib.Core.Path.{_≡_};
 ghost use mathlib.Core.List.{[]};
 ghost use Rattle.skip_list.specs.Lent.{size};
 ghost use Rattle.line.specs.Consoles.{stand};
-ghost use Rattle.line.specs.Sessions.{Session};
+ghost use Rattle.line.specs.Dialogues.{Dialogue};
 ghost use Rattle.desk.specs.Desks.{Prepared, new-desk, rules as «the-rules», yard as «the-yard»};
 use crate::piles::RulesPile;
 use crate::piles::YardPile;
@@ -31,12 +31,12 @@ pub struct Desk<'r, 'n, 'y, 't> {
 }
 
 impl<'r, 'n, 'y, 't> Desk<'r, 'n, 'y, 't> {
-    // Over two row lists, which begin anew: no rule, no train, and a session begins.
+    // Over two row lists, which begin anew: no rule, no train, and a dialogue begins.
     pub fn new(
         numbers: &'r mut SkipList<'n, RuleNumber>,
         tags: &'y mut SkipList<'t, TrainTag>,
     ) -> Desk<'r, 'n, 'y, 't>
-        ensures begins { λ r. ⌜ Session (new-desk (size (now (numbers .entry) .lent)) (size (now (tags .entry) .lent))) [] [] (stand «the-rules» «the-yard» (r .console)) ⌝ }
+        ensures begins { λ r. ⌜ Dialogue (new-desk (size (now (numbers .entry) .lent)) (size (now (tags .entry) .lent))) [] [] (stand «the-rules» «the-yard» (r .console)) ⌝ }
     {
         Desk {
             console: Console::new(rules_pile(numbers), yard_pile(tags)),

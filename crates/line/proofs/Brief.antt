@@ -1,6 +1,7 @@
 -- What is printed has room with its newline in 1,024 bytes.
 use Prim.Native.Nat.{ℕ, _*_, _^_, _<_, _≤_, min}
 use mathlib.Core.Path.{_≡_, sym, ap, subst, _∙_}
+use mathlib.Core.Bool.{false}
 use mathlib.Core.Logic.{⊎-elim}
 use mathlib.Core.List.{List, [], _∷_, map}
 use native.Mathlib.Omega.{arith}
@@ -83,7 +84,7 @@ pub list-brief : (ns : List ℕ) → length ns ≤ 256 → All (λ n. n < 256) n
 list-brief [] l h = omega arith
 list-brief (n ∷ ns) l h = omega (arith, spread-short ns (h .1), three n (h .0), length-append (decimal n) (spread (map decimal ns)))
 
-ruled-small : (rules : ℕ → Option Rule) → ((n : ℕ) → 255 < n → rules n ≡ None) → (ks : List RuleNumber) → All (λ n. n < 256) (ruled rules ks)
+ruled-small : (rules : ℕ → Option Rule) → ((n : ℕ) → 255 < n → isSome (rules n) ≡ false) → (ks : List RuleNumber) → All (λ n. n < 256) (ruled rules ks)
 ruled-small rules h [] = tt
 ruled-small rules h (k ∷ ks) =
     ⊎-elim

@@ -7,6 +7,7 @@ use mathlib.Core.List.{List, []}
 use native.Mathlib.Omega.{arith}
 use borrow.Author.Tests.{ne-eqb}
 use lib.Dec.{eqb}
+use Rattle.std.specs.Options.{isSome}
 use Rattle.std.specs.declared.option.Option.{Option}
 use Rattle.std.specs.declared.option.Option.the-variants.{Some, None}
 use Rattle.std.specs.declared.result.Result.{Result}
@@ -41,7 +42,7 @@ use Rattle.line.proofs.Brief.{refused-brief}
 lasts-equal : (v w : Pages) → w ≡ v → Numbered v → Numbered w
 lasts-equal v w e h = subst Numbered (sym e) h
 
-lasts-with : (v : Pages) (n : ℕ) (rule : Option Rule) → n ≤ 255 → Numbered v → (k : ℕ) → 255 < k → with-rule n rule (v .rules) k ≡ None
+lasts-with : (v : Pages) (n : ℕ) (rule : Option Rule) → n ≤ 255 → Numbered v → (k : ℕ) → 255 < k → isSome (with-rule n rule (v .rules) k) ≡ false
 lasts-with v n rule small h k l = let e : eqb k n ≡ false = ne-eqb k n (omega arith) in rw e (h k l)
 
 lasts-placed : (v w : Pages) (res : Result ℕ BookFault) (n : ℕ) (rule : Rule) (place : ℕ) → Adds n rule place res v w → Numbered v → Numbered w

@@ -7,8 +7,9 @@
 use Prim.Native.Nat.{ℕ, _<_, _≤_}
 use mathlib.Core.Path.{_≡_}
 use mathlib.Core.List.{List, _∷_, _++_}
-use mathlib.Core.Bool.{true}
+use mathlib.Core.Bool.{true, false}
 use lib.ListN.{length}
+use Rattle.std.specs.Options.{isSome}
 use Rattle.std.specs.Results.{isOk}
 use Rattle.std.specs.declared.option.Option.{Option}
 use Rattle.std.specs.declared.option.Option.the-variants.{Some, None}
@@ -40,7 +41,7 @@ abbrev pub stand : {R Y : Type 0} → Ghosts R RuleNumber → Ghosts Y TrainTag 
 stand r y p = record { board = board r y (p .panel); state = p .draws .state }
 
 abbrev pub Numbered : Pages → Type 0
-Numbered v = (n : ℕ) → 255 < n → v .rules n ≡ None
+Numbered v = (n : ℕ) → 255 < n → isSome (v .rules n) ≡ false
 
 abbrev pub Ready : {R Y : Type 0} → Ghosts R RuleNumber → Ghosts Y TrainTag → Console R Y → Type 0
 Ready r y p = Sound r y (p .panel) × Numbered (pages r (p .panel .book))
