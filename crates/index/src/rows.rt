@@ -5,7 +5,7 @@ ghost use mathlib.Core.List.{List, [], _∷_};
 ghost use mathlib.Core.Bool.{true, false};
 ghost use lib.ListN.{length, set};
 ghost use denote.Ref.{now};
-ghost use Rattle.index.specs.Index.{Index, Indexed, Row, Used, spot};
+ghost use Rattle.index.specs.Index.{Elsewhere, Index, Indexed, Row, Used, held, spot, tally};
 use crate::probe;
 use order::key::HashKey;
 use order::key::Key;
@@ -46,6 +46,19 @@ impl<'a, K: HashKey> Rows<'a, K> {
         ensures used { λ r. ⌜ ((home : ℕ → ℕ) (rows : List ℕ) → Indexed home (now (now (self .entry) .slots)) (length (now (now (self .entry) .keys))) (now (self .entry) .free) rows → Used home (spot (K·HashKey .hashed) (length (now (now (self .entry) .keys))) (K·Key .identity (now (key .entry)))) rows r) ⌝ }
     {
         probe::find(self.keys, self.slots, key)
+    }
+
+    // Whether a key leads to a row.
+    pub fn leads_to(&self, key: &K, row: u16) -> bool
+        requires small { ⌜ length (now (now self .keys)) < 2 ^ 16 ⌝ }
+        requires slots { ⌜ length (now (now self .slots)) ≡ length (now (now self .keys)) + length (now (now self .keys)) ⌝ }
+        ensures leads { λ r. ⌜ (r ≡ true → (home : ℕ → ℕ) (rows : List ℕ) → Indexed home (now (now (self .entry) .slots)) (length (now (now (self .entry) .keys))) (now (self .entry) .free) rows → home row ≡ spot (K·HashKey .hashed) (length (now (now (self .entry) .keys))) (K·Key .identity (now (key .entry)))) ⌝ }
+        ensures misses { λ r. ⌜ (r ≡ false → (rows : List ℕ) → Index (K·Key .identity) (K·HashKey .hashed) (now (now (self .entry) .keys)) (now (now (self .entry) .slots)) (now (self .entry) .free) rows → 0 < tally row rows → held (K·Key .identity) (now (now (self .entry) .keys)) row ≡ K·Key .identity (now (key .entry)) → Elsewhere (K·Key .identity) (now (now (self .entry) .keys)) rows (now (key .entry)) row) ⌝ }
+    {
+        match self.find(key) {
+            Some(found) => found == row,
+            None => false,
+        }
     }
 
     // Puts the key into the first free row, and that row into the key's chain.

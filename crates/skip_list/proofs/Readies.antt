@@ -1,5 +1,5 @@
 -- What a list that is ready gives.
-use Prim.Native.Nat.{ℕ, _+_, _-_, _<_}
+use Prim.Native.Nat.{_≤_, ℕ, _+_, _-_, _<_}
 use mathlib.Core.Path.{_≡_, sym, ap, subst, _∙_}
 use mathlib.Core.List.{List, _∷_}
 use native.Mathlib.Omega.{arith}
@@ -49,3 +49,11 @@ module _ {A : Type 0} (s : Lent A) (h : Ready s) where
       let low : i < length (used s) = omega (arith, length-used) in
       let q : getD (used s) i 0 ≡ r - 1 = lower-at (order (cells (s .links)) (s .links .len)) i ∙ ap (λ (x : ℕ). x - 1) (sym e) in
       kept-at (keysOf s) (used s) i (r - 1) k rows-below (low, getD-default (used s) i (r - 1) 0 low ∙ q) at
+
+  -- the row at a place, as the index numbers it
+  pub row-there : (i r : ℕ) → i < s .links .len → r ≡ getD (order (cells (s .links)) (s .links .len)) i 0 → (0 < r) × (r ≤ size s) × At (used s) i (r - 1)
+  row-there i r lt e =
+      let q = here-at (cells (s .links)) (s .links .len) i lt (h .holds) .0 .sound .1 .0 .0 in
+      let low : i < length (used s) = omega (arith, length-used) in
+      let same : getD (used s) i 0 ≡ r - 1 = lower-at (order (cells (s .links)) (s .links .len)) i ∙ ap (λ (x : ℕ). x - 1) (sym e) in
+      (subst (λ (x : ℕ). 0 < x) (sym e) (q .0), subst (λ (x : ℕ). x ≤ size s) (sym e) (omega (arith, q .1, h .sized)), (low, getD-default (used s) i (r - 1) 0 low ∙ same))

@@ -25,12 +25,15 @@ use Rattle.order.proofs.Places.{apart-inserted, apart-removed}
 use Rattle.links.specs.Cells.{cells, levels}
 use Rattle.links.specs.Ring.{Holds}
 use Rattle.links.proofs.Orders.{held}
-use Rattle.index.specs.Index.{Indexed, Row, Used, tally, spot, homes}
+use Rattle.std.proofs.shelf.Lists.{getD-default}
+use Rattle.index.specs.Index.{Elsewhere, Indexed, Row, Used, homes, spot, tally}
+use Rattle.index.specs.Index as index
 use Rattle.index.proofs.Chains.{held-at, home-new, home-old}
 use Rattle.index.proofs.Cut.{room-left, room-none, free-unused}
 use Rattle.skip_list.specs.declared.lent.Lent.{Lent}
 use Rattle.skip_list.specs.declared.list.SkipList.{SkipList}
 use Rattle.skip_list.specs.Lent.{picked, keysOf, size, used, kept, Chained, Ready, Enters, Sound}
+use Rattle.skip_list.specs.Tower.{Taken}
 use Rattle.skip_list.specs.Memory.{Usable}
 use Rattle.skip_list.proofs.Picks.{kept-at, row-at, stands, stands-some}
 use Rattle.skip_list.proofs.Readies.{rows-below, row-low, length-used}
@@ -65,6 +68,10 @@ module _ {A : Type 0} (s : Lent A) (c : ∥ ((home : ℕ → ℕ) × Chained s h
       let f = row-free low in
       record { ready = h; place = le; room = omega (arith, f .0, length-used s h); free-low = low; unused = f .1; level-low = vl; level-high = vh }
 
+-- the key of a row stands at the place of the row
+pub there : {A : Type 0} (s : Lent A) (h : Ready s) (key : A) (i r : ℕ) → At (used s) i r → getD (keysOf s) r key ≡ key → At (kept s) i key
+there s h key i r a e = kept-at (keysOf s) (used s) i r key (rows-below s h) a e
+
 module _ {A : Type 0} (identity : A → List ℕ) (hashed : List ℕ → ℕ) (whole : (a b : A) → identity a ≡ identity b → a ≡ b) (s : Lent A) (h : Ready s) where
   pub found-at : (key : A) (r i : ℕ) → Row identity (keysOf s) (used s) key (Some r) → At (used s) i r → At (kept s) i key
   found-at key r i f a = kept-at (keysOf s) (used s) i r key (rows-below s h) a (whole _ _ (sym (held-at identity (keysOf s) r key (row-low s h i r a)) ∙ f .1))
@@ -80,6 +87,26 @@ module _ {A : Type 0} (identity : A → List ℕ) (hashed : List ℕ → ℕ) (w
       getD-own [] i = refl
       getD-own (x ∷ xs) zero = refl
       getD-own (x ∷ xs) (suc i) = getD-own xs i
+
+  -- no other row holds the key at a place
+  pub only-row : (key : A) (i r : ℕ) → At (used s) i r → At (kept s) i key → Distinct (kept s) → Elsewhere identity (keysOf s) (used s) key r → ⊥
+  only-row key i r a k d (q, in-use, same, ne) =
+      let j = stands q (used s) in-use in
+      let e = d (j .0) i key (found-at key q (j .0) (in-use, same) (j .1)) k in
+      ne (sym (j .1 .1) ∙ ap (λ (x : ℕ). getD (used s) x q) e ∙ getD-default (used s) i q r (a .0) ∙ a .1)
+
+  -- a key at a place leads to its row
+  pub lost-key : (key : A) (i r : ℕ) → At (used s) i r → getD (keysOf s) r key ≡ key → Sound s identity hashed →
+      (0 < tally r (used s) → index.held identity (keysOf s) r ≡ identity key → Elsewhere identity (keysOf s) (used s) key r) → ⊥
+  lost-key key i r a e x f =
+      only-row key i r a (there s h key i r a e) (x .1) (f (stands-some r (used s) i a) (held-at identity (keysOf s) r key (row-low s h i r a) ∙ ap identity e))
+
+  -- the list stays sound when the key at a place is taken out
+  pub sound-taken : (t : Lent A) (i : ℕ) (k : A) → Taken s i k t → ((home : ℕ → ℕ) → Chained s home (used s) → Chained t home (used t)) → Sound s identity hashed → Sound t identity hashed
+  sound-taken t i k w chains x = (
+    ∥∥₁-map (x .0) (λ u. subst (λ (ks : List A). Chained t (homes identity hashed ks) (used t)) (sym (w .keys-stay)) (chains (homes identity hashed (keysOf s)) u)),
+    subst Distinct (sym (w .order-left)) (apart-removed (kept s) i (w .stood .0) (x .1)),
+  )
 
   -- what the two cases of a lookup say
   pub some-found : (key : A) (o : Option ℕ) → isSome o ≡ true → Row identity (keysOf s) (used s) key o → Stands (kept s) key

@@ -6,6 +6,7 @@ use mathlib.Core.Bool.{cond}
 use mathlib.Core.List.{List, [], _∷_, map, reverse}
 use lib.Dec.{ltb}
 use lib.ListN.{getD, take, drop}
+use Rattle.std.specs.Holes.{removed}
 use Rattle.std.specs.declared.option.Option.{Option}
 use Rattle.std.specs.declared.option.Option.the-variants.{Some, None}
 use Rattle.std.specs.declared.result.Result.{Result}
@@ -15,6 +16,7 @@ use Rattle.links.specs.declared.Link.{Link}
 use Rattle.links.specs.Cells.{cells, levels}
 use Rattle.links.specs.Ring.{order}
 use Rattle.skip_list.specs.declared.lent.Lent.{Lent}
+use Rattle.skip_list.specs.Lent.{keysOf, kept}
 use Rattle.skip_list.specs.declared.report.KeyLink.{KeyLink}
 use Rattle.skip_list.specs.declared.report.KeyLinks.{KeyLinks}
 use Rattle.skip_list.specs.declared.fault.ListFault.{ListFault}
@@ -31,6 +33,14 @@ module _ {A : Type 0} (s : Lent A) where
 
   abbrev pub height : ℕ
   height = getD (levels (cells (s .links))) 0 0
+
+-- the key k, which stood at place i, was taken out
+pub record Taken {A : Type 0} (s : Lent A) (i : ℕ) (k : A) (t : Lent A) : Type 0 where
+  pub stood : At (kept s) i k
+  pub keys-stay : keysOf t ≡ keysOf s
+  pub order-left : kept t ≡ removed (kept s) i
+  pub levels-left : highs t ≡ removed (highs s) i
+  pub height-stays : height t ≡ height s
 
 -- the first key of a list
 abbrev pub firstOf : {A : Type 0} → List A → Option A

@@ -91,6 +91,14 @@ impl<'a, K: HashKey> Lent<'a, K> {
         self.links.index_of(row + 1)
     }
 
+    // The key in a row.
+    pub(crate) fn key_in(&self, row: u16) -> K
+        requires { ⌜ row < size (now self) ⌝ }
+        ensures { λ k. ⌜ getD (keysOf (now (self .entry))) row k ≡ k ⌝ }
+    {
+        element(self.index.keys, row as usize)
+    }
+
     // The key at a place.
     pub(crate) fn key_at(&self, place: u32) -> K
         requires { ⌜ Ready (now self) ⌝ ∗ ⌜ place < now self .links .len ⌝ }

@@ -5,8 +5,8 @@ ghost use lib.ListN.{set};
 ghost use Rattle.std.specs.Holes.{inserted, removed};
 ghost use Rattle.order.specs.Order.{At};
 ghost use Rattle.index.specs.Index.{spot, tally};
-ghost use Rattle.skip_list.specs.Lent.{Chained, Enters, Ready, keysOf, kept, used, size};
-ghost use Rattle.skip_list.specs.Tower.{height, highs};
+ghost use Rattle.skip_list.specs.Lent.{Chained, Enters, Ready, Sound, keysOf, kept, used, size};
+ghost use Rattle.skip_list.specs.Tower.{Taken, height, highs};
 use crate::lent::Lent;
 use order::key::HashKey;
 use order::key::Key;
@@ -41,5 +41,23 @@ impl<'a, K: HashKey> Lent<'a, K> {
     {
         self.index.unlink(row, key);
         self.links.remove_row(row + 1)
+    }
+
+    // Takes out the row at a place, and says which key it held. Where the key does not lead to its row, which a lawful hash rules out,
+    // it takes every key out, so that links and index agree whatever the hash answers.
+    pub(crate) fn take_at(&mut self, place: u32) -> K
+        requires { ⌜ Ready (now self) ⌝ ∗ ⌜ place < now self .links .len ⌝ }
+        ensures ready { λ _. ⌜ Ready (now (self .exit)) ⌝ }
+        ensures chains { λ _. ⌜ ((home : ℕ → ℕ) → Chained (now (self .entry)) home (used (now (self .entry))) → Chained (now (self .exit)) home (used (now (self .exit)))) ⌝ }
+        ensures taken { λ k. ⌜ (Sound (now (self .entry)) (K·Key .identity) (K·HashKey .hashed) → Taken (now (self .entry)) place k (now (self .exit))) ⌝ }
+    {
+        let row = self.links.remove_at(place);
+        let key = self.key_in(row - 1);
+        if !self.index.leads_to(&key, row - 1) {
+            self.clear();
+            return key;
+        }
+        self.index.unlink(row - 1, &key);
+        key
     }
 }
