@@ -1,4 +1,4 @@
--- The links that are reported, from the order and the levels alone, and what they mean.
+-- Which rows the links of a level lead through, and what their counts come to.
 use Prim.Native.Nat.{ℕ, zero, suc, _+_, _<_}
 use mathlib.Core.Path.{_≡_}
 use mathlib.Core.Bool.{Bool, cond}

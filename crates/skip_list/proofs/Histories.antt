@@ -13,7 +13,7 @@ use Rattle.std.specs.declared.result.Result.{Result}
 use Rattle.std.specs.declared.result.Result.the-variants.{Ok, Err}
 use Rattle.std.proofs.shelf.Tests.{cases-lt}
 use Rattle.order.specs.declared.fault.SetFault.{SetFault}
-use Rattle.order.specs.Order.{At, Absent, Distinct}
+use Rattle.order.specs.Order.{At, Absent}
 use Rattle.order.proofs.Places.{Before, before-inserted, before-removed}
 use Rattle.skip_list.specs.declared.lent.Lent.{Lent}
 use Rattle.skip_list.specs.Law.{LevelLaw}
@@ -131,7 +131,3 @@ module _ {A : Type 0} where
   pub told-next : (ds : List (Deed A)) (t : Lent A) (p k : A) (i d : ℕ) (r : Result Unit SetFault) → At (orderAfter ds) i p → Told (afterPut r (put (i + 1) k d) ds) t → ToldNext r p k d ds t
   told-next ds t p k i d (Ok u) a w = (i, a, w)
   told-next ds t p k i d (Err e) a w = w
-
-  -- a key that stands at one place only
-  pub told-same : (ds : List (Deed A)) (s t : Lent A) (i j : ℕ) (k : A) → Told (out j ∷ ds) t → At (kept s) i k → At (kept s) j k → Distinct (kept s) → Told (out i ∷ ds) t
-  told-same ds s t i j k w a b d = subst (λ (n : ℕ). Told (out n ∷ ds) t) (d j i k b a) w

@@ -20,7 +20,7 @@ use Rattle.std.specs.declared.result.Result.the-variants.{Ok, Err}
 use Rattle.std.proofs.shelf.Tests.{eq-eqb, ne-eqb, true≢false}
 use Rattle.order.specs.declared.fault.SetFault.{SetFault}
 use Rattle.order.specs.declared.fault.SetFault.the-variants.{Present, NoPredecessor, PastEnd, Full, Uneven}
-use Rattle.order.specs.Order.{Meaning, At, Absent, Stands, Distinct, InsertsAt, InsertsAfter}
+use Rattle.order.specs.Order.{Meaning, ordered, At, Absent, Stands, Distinct, InsertsAt, InsertsAfter}
 use Rattle.order.proofs.Places.{apart-inserted, apart-removed}
 use Rattle.links.specs.Cells.{cells, levels}
 use Rattle.links.specs.Ring.{Holds}
@@ -32,7 +32,7 @@ use Rattle.index.proofs.Chains.{held-at, home-new, home-old}
 use Rattle.index.proofs.Cut.{room-left, room-none, free-unused}
 use Rattle.skip_list.specs.declared.lent.Lent.{Lent}
 use Rattle.skip_list.specs.declared.list.SkipList.{SkipList}
-use Rattle.skip_list.specs.Lent.{picked, keysOf, size, used, kept, Chained, Ready, Enters, Sound}
+use Rattle.skip_list.specs.Lent.{picked, keysOf, means, size, used, kept, Chained, Ready, Enters, Sound}
 use Rattle.skip_list.specs.Tower.{Taken}
 use Rattle.skip_list.specs.Memory.{Usable}
 use Rattle.skip_list.proofs.Picks.{kept-at, row-at, stands, stands-some}
@@ -67,6 +67,10 @@ module _ {A : Type 0} (s : Lent A) (c : ∥ ((home : ℕ → ℕ) × Chained s h
   entering i v h le low vl vh =
       let f = row-free low in
       record { ready = h; place = le; room = omega (arith, f .0, length-used s h); free-low = low; unused = f .1; level-low = vl; level-high = vh }
+
+-- what is meant once a key was taken out
+pub means-taken : {A : Type 0} (s t : Lent A) (i : ℕ) (k : A) → Taken s i k t → means t ≡ ordered (means s) (removed (kept s) i)
+means-taken {A} s t i k w = ap (λ (xs : List A). record { order = xs; room = size t }) (w .order-left) ∙ ap (λ (ks : List A). record { order = removed (kept s) i; room = length ks }) (w .keys-stay)
 
 -- the key of a row stands at the place of the row
 pub there : {A : Type 0} (s : Lent A) (h : Ready s) (key : A) (i r : ℕ) → At (used s) i r → getD (keysOf s) r key ≡ key → At (kept s) i key

@@ -103,8 +103,9 @@ pub impl<'a, K: HashKey> OrderedSet<K> for SkipList<'a, K> as SkipListSet {
         ensures kept { λ r. ⌜ (isSome r ≡ false → now (self .exit) ≡ now (self .entry)) ⌝ }
         ensures told { λ r. ⌜ (Sound (now (self .entry) .lent) (K·Key .identity) (K·HashKey .hashed) → (ds : List (Deed K)) → Told ds (now (self .entry) .lent) → Told (afterAt r place ds) (now (self .exit) .lent)) ⌝ }
     {
-        let key = self.key_of(place)?;
-        self.remove_key(key)?;
-        Some(key)
+        if place >= self.lent.links.len {
+            return None;
+        }
+        Some(self.lent.take_at(place))
     }
 }

@@ -1,5 +1,5 @@
 -- Why `leads_to` keeps its contract.
-use mathlib.Core.Path.{_≡_, ap, sym, _∙_}
+use mathlib.Core.Path.{ap, sym, _∙_}
 use borrow.Author.Tests.{eqb-true, eqb-false}
 use Rattle.index.proofs.rows.Rows.leads_to.Needs as need
 

@@ -1,12 +1,11 @@
 -- Why `take_at` keeps its contract.
-use Prim.Native.Nat.{ℕ, _-_, _<_, _≤_}
-use mathlib.Core.Path.{_≡_, refl, ap, sym, subst}
+use Prim.Native.Nat.{ℕ, _-_}
+use mathlib.Core.Path.{refl, ap, sym, subst}
 use mathlib.Core.List.{List}
 use native.Mathlib.Omega.{arith}
 use lib.ListN.{getD}
-use Rattle.order.specs.Order.{At}
 use Rattle.skip_list.specs.declared.lent.Lent.{Lent}
-use Rattle.skip_list.specs.Lent.{Chained, Ready, kept, used, size}
+use Rattle.skip_list.specs.Lent.{Chained, used}
 use Rattle.skip_list.proofs.Moves.{kept-out, highs-out, ready-out, chained-out}
 use Rattle.skip_list.proofs.Readies.{row-there}
 use Rattle.skip_list.proofs.Sounds.{lost-key, there}

@@ -1,26 +1,36 @@
 -- Why `remove_index` keeps its contract.
-use borrow.Author.Needs.{needs}
-use mathlib.Core.Path.{sym, subst}
-use Rattle.order.specs.Order.{At}
-use Rattle.skip_list.specs.declared.list.SkipList.{SkipList}
-use Rattle.skip_list.specs.History.{Told}
-use Rattle.skip_list.specs.Lent.{kept}
-use Rattle.skip_list.proofs.Histories.{told-same}
+use native.Mathlib.Omega.{arith}
+use mathlib.Core.Path.{refl}
+use mathlib.Core.Logic.{∥∥₁-map}
+use Rattle.std.proofs.shelf.Tests.{true≢false}
+use Rattle.skip_list.proofs.Histories.{told-out}
+use Rattle.skip_list.proofs.Readies.{length-kept}
+use Rattle.skip_list.proofs.Sounds.{means-taken, ready-list, sound-taken}
 use Rattle.skip_list.proofs.set.SkipListSet.remove_index.Needs as need
+
+pub returns-then-place-self : need.returns-then-place-self
+returns-then-place-self g c =
+    record {
+      removes = λ h. (omega (arith, length-kept (c .args .self .now .lent) (ready-list (c .args .self .now)), c .if-place-self .taken), refl);
+      sound = λ h. h;
+      kept = λ _. refl;
+      told = λ h ds w. w;
+    }
+
+pub take-at-requires : need.take-at-requires
+take-at-requires g c κs = (ready-list (c .args .self .now), c .if-place-self .left)
+
+pub ghost-self : need.ghost-self
+ghost-self g c =
+    let r = c .take-at .ensures .ready in
+    (r .few, (r .twice, (r .sized, (∣ r .holds ∣₁, (∥∥₁-map (c .args .self .now .chained) (λ u. (u .0, c .take-at .ensures .chains (u .0) (u .1))), tt)))))
 
 pub returns : need.returns
 returns g c =
-    let e = c .key-of .ensures .kept in
     record {
-      removes = search needs;
-      sound = search needs;
-      kept = search needs;
-      told = λ h ds w.
-          let r = c .in-Continue-remove-key .ensures tt in
-          let was = c .key-of .ensures .sound h in
-          told-same ds (c .args .self .now .lent) (c .remove-key .last .self .lent) (c .args .place) (c .in-Continue-remove-key .field-0) (c .in-Continue-key .key)
-          (r .told was ds (subst (λ (s : SkipList _). Told ds (s .lent)) (sym e) w))
-          (c .in-Continue-key .ensures tt .gives h .0)
-          (subst (λ (s : SkipList _). At (kept (s .lent)) (c .in-Continue-remove-key .field-0) (c .in-Continue-key .key)) e (r .removes was .0))
-          (h .1);
+      removes = λ h. let t = c .take-at .ensures .taken h in (t .stood, means-taken (c .args .self .now .lent) (c .take-at .last .self) (c .args .place) (c .take-at .result) t);
+      sound = λ h. sound-taken (g .K·Key .identity) (g .K·HashKey .hashed) (g .K·Key·met .whole) (c .args .self .now .lent) (ready-list (c .args .self .now)) (c .take-at .last .self) (c .args .place) (c .take-at .result) (c .take-at .ensures .taken h) (c .take-at .ensures .chains) h;
+      kept = λ e. absurd (true≢false e);
+      told = λ h ds w. let t = c .take-at .ensures .taken h in
+          told-out ds (c .args .self .now .lent) (c .take-at .last .self) (c .args .place) (c .take-at .ensures .ready) w (t .stood .0) (t .order-left) (t .levels-left) (t .height-stays);
     }
