@@ -52,15 +52,18 @@ NamesBack xs q None = q ≡ 0
 abbrev pub andNone : {A : Type 0} → List A → List (Option A)
 andNone xs = map Some xs ++ None ∷ []
 
--- Of the keys xs with the levels vs, the links of level l ahead visit those that reach the level, and the links back visit them in reverse.
--- Each count is the difference of the positions of its ends, and the counts ahead total the length plus 1.
+-- The law of level l, over the keys xs in order with their levels vs.
 pub record LevelLaw {A : Type 0} (s : Lent A) (xs : List A) (vs : List ℕ) (l : ℕ) : Type 0 where
+  -- the forward links visit exactly the keys that reach the level, in order; the backward links visit them in reverse
   pub forward : visited s Ahead l (suc (length (reaching l xs vs))) ≡ andNone (reaching l xs vs)
   pub backward : visited s Back l (suc (length (reaching l xs vs))) ≡ andNone (reverse (reaching l xs vs))
+  -- the forward counts total the length plus one
   pub totals : total (linkIn s Ahead l) (length (reaching l xs vs)) 0 ≡ length xs + 1
+  -- the links kept by the head, by a key that reaches the level, and for the end are those that order and levels give
   pub from-head : linkHeld s Ahead l 0 ≡ linkAhead xs vs l 0
   pub from-key : (i : ℕ) → i < length xs → l < getD vs i 0 → linkHeld s Ahead l (suc i) ≡ linkAhead xs vs l (suc i)
   pub back-from-key : (i : ℕ) → i < length xs → l < getD vs i 0 → linkHeld s Back l (suc i) ≡ linkBack xs vs l i
   pub back-from-end : linkHeld s Back l (suc (length xs)) ≡ linkBack xs vs l (length xs)
+  -- each count is the difference of the positions of its ends
   pub counts-ahead : (p : ℕ) → p ≤ length xs → NamesAhead xs (p + linkAhead xs vs l p .count) (linkAhead xs vs l p .key)
   pub counts-back : (i : ℕ) → i ≤ length xs → (linkBack xs vs l i .count ≤ suc i) × NamesBack xs (suc i - linkBack xs vs l i .count) (linkBack xs vs l i .key)

@@ -68,7 +68,7 @@ pub record Runs {A : Type 0} (ds : List (Deed A)) (s : Lent A) (ts : List (Turn 
   pub told : Told after t
   pub room : size t ≡ size s
 
--- a script on a new list: the deeds that its accepted calls did, and the list that obeys the law of those deeds
+-- A script on a new list: its accepted calls did these deeds, each answer is the one due, and the list that is left obeys the law of the deeds.
 pub record Played {A : Type 0} (ts : List (Turn A)) (t : Lent A) : Type 0 where
   pub deeds : List (Deed A)
   pub plays : Plays (size t) [] ts deeds

@@ -1,4 +1,4 @@
-// A splice into a row list: keys put in one after the other, each at the level of its draw.
+// A splice into a row list. The splice above any set says what order it leaves; this one also says the level of each key.
 ghost use Prim.Native.Nat.{_≤_};
 ghost use mathlib.Core.List.{List};
 ghost use Rattle.std.specs.Vec.{made};
