@@ -14,8 +14,11 @@ LevelCases = (levelOf 4294967295 ≡ 1) × (levelOf 1073741824 ≡ 1) × (levelO
 abbrev pub pushed : ℕ → ℕ → ℕ → List (Deed ℕ)
 pushed a b c = put 2 c 4 ∷ put 1 b 0 ∷ put 0 a 1073741824 ∷ []
 
+-- The head of a new list links to none with 1 at level 0, and its height is 1. Of the three keys,
 -- at level 15 the head links to b with 2, and b to none with 2; once b is removed the head links to none with 3, and the height is still 16
 pub record LinkCases (a b c : ℕ) : Type 0 where
+  pub new-head : headLinks {A = ℕ} (orderAfter []) (levelsAfter {A = ℕ} []) 0 .ahead ≡ record { key = None; count = 1 }
+  pub new-height : heightAfter {A = ℕ} [] ≡ 1
   pub to-b : headLinks (orderAfter (pushed a b c)) (levelsAfter (pushed a b c)) 15 .ahead ≡ record { key = Some b; count = 2 }
   pub from-b : linksAt (orderAfter (pushed a b c)) (levelsAfter (pushed a b c)) 15 1 .ahead ≡ record { key = None; count = 2 }
   pub without-b : headLinks (orderAfter (out 1 ∷ pushed a b c)) (levelsAfter (out 1 ∷ pushed a b c)) 15 .ahead ≡ record { key = None; count = 3 }
