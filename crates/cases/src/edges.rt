@@ -156,7 +156,7 @@ fn emptying<K: Sample, S: OrderedSet<K>>(tally: &mut Tally, set: &mut S) {
 }
 
 // All edges of an empty set with room for three.
-pub fn edges<K: Sample, S: OrderedSet<K>>(tally: &mut Tally, set: &mut S) {
+pub(crate) fn edges<K: Sample, S: OrderedSet<K>>(tally: &mut Tally, set: &mut S) {
     empty::<K, S>(tally, set);
     filling::<K, S>(tally, set);
     full::<K, S>(tally, set);
@@ -164,7 +164,7 @@ pub fn edges<K: Sample, S: OrderedSet<K>>(tally: &mut Tally, set: &mut S) {
 }
 
 // The plain row, at both key types, over no cell, and over more cells than it takes.
-pub fn plain_rows(tally: &mut Tally) {
+pub(crate) fn plain_rows(tally: &mut Tally) {
     let mut numbers = [RuleNumber { value: 0 }; 3];
     edges::<RuleNumber, _>(tally, &mut PlainRow::new(&mut numbers));
     let mut tags = [TrainTag {

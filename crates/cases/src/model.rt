@@ -10,14 +10,14 @@ pub struct Model<K> {
 }
 
 impl<K: Key> Model<K> {
-    pub fn new(heap: Global, room: usize) -> Model<K> {
+    pub(crate) fn new(heap: Global, room: usize) -> Model<K> {
         Model {
             keys: Vec::new(heap),
             room,
         }
     }
 
-    pub fn place_of(&self, key: K) -> Option<usize> {
+    pub(crate) fn place_of(&self, key: K) -> Option<usize> {
         for (place, other) in self.keys.iter().enumerate() {
             if other.same(&key) {
                 return Some(place);
@@ -27,7 +27,7 @@ impl<K: Key> Model<K> {
     }
 
     // The number of the refusal, or 0 where the key went in.
-    pub fn insert(&mut self, place: usize, key: K) -> Result<u8, AllocError> {
+    pub(crate) fn insert(&mut self, place: usize, key: K) -> Result<u8, AllocError> {
         if self.place_of(key).is_some() {
             return Ok(1);
         }
@@ -41,7 +41,7 @@ impl<K: Key> Model<K> {
         Ok(0)
     }
 
-    pub fn insert_after(&mut self, before: K, key: K) -> Result<u8, AllocError> {
+    pub(crate) fn insert_after(&mut self, before: K, key: K) -> Result<u8, AllocError> {
         if self.place_of(key).is_some() {
             return Ok(1);
         }
@@ -51,7 +51,7 @@ impl<K: Key> Model<K> {
         }
     }
 
-    pub fn remove_at(&mut self, place: usize) -> Option<K> {
+    pub(crate) fn remove_at(&mut self, place: usize) -> Option<K> {
         if place < self.keys.len() {
             Some(self.keys.remove(place))
         } else {
@@ -59,7 +59,7 @@ impl<K: Key> Model<K> {
         }
     }
 
-    pub fn remove(&mut self, key: K) -> Option<usize> {
+    pub(crate) fn remove(&mut self, key: K) -> Option<usize> {
         let place = self.place_of(key)?;
         let _ = self.remove_at(place);
         Some(place)

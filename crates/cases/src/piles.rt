@@ -73,7 +73,7 @@ fn limit_made_late(tally: &mut Tally) {
     tally.check("no more than the room below", wide.capacity() == 4);
 }
 
-pub fn piles(tally: &mut Tally) {
+pub(crate) fn piles(tally: &mut Tally) {
     limit_over_last_place(tally);
     last_place_over_limit(tally);
     two_limits(tally);

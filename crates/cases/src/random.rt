@@ -30,11 +30,11 @@ pub struct Dice {
 }
 
 impl Dice {
-    pub fn new(seed: u32) -> Dice {
+    pub(crate) fn new(seed: u32) -> Dice {
         Dice { state: seed | 1 }
     }
 
-    pub fn roll(&mut self) -> u32 {
+    pub(crate) fn roll(&mut self) -> u32 {
         let mut x = self.state;
         x ^= x.wrapping_shl(13);
         x ^= x >> 17;
@@ -106,7 +106,7 @@ fn removal<K: Sample, S: OrderedSet<K>>(
 }
 
 // A run of `steps` calls over `keys` different keys; three of five are insertions.
-pub fn run<K: Sample, S: OrderedSet<K>>(
+pub(crate) fn run<K: Sample, S: OrderedSet<K>>(
     rt: &LibcRuntime,
     tally: &mut Tally,
     set: &mut S,
@@ -151,7 +151,7 @@ fn over_pile(rt: &LibcRuntime, tally: &mut Tally) -> Result<(), AllocError> {
     run::<RuleNumber, _>(rt, tally, &mut pile, 20, 3000)
 }
 
-pub fn runs(rt: &LibcRuntime, tally: &mut Tally) -> io::Result<()> {
+pub(crate) fn runs(rt: &LibcRuntime, tally: &mut Tally) -> io::Result<()> {
     over_numbers(rt, tally)?;
     over_tags(rt, tally)?;
     over_pile(rt, tally)?;

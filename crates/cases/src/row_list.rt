@@ -245,7 +245,7 @@ fn levels_and_links(tally: &mut Tally) {
     unlinked(tally, &mut list);
 }
 
-pub fn examples(tally: &mut Tally) {
+pub(crate) fn examples(tally: &mut Tally) {
     memory(tally);
     bad_memory(tally);
     shorter_rows(tally);
@@ -270,7 +270,7 @@ fn over_constant_hash(rt: &LibcRuntime, tally: &mut Tally) -> Result<(), AllocEr
     run::<Same, _>(rt, tally, &mut list, 40, 3000)
 }
 
-pub fn runs(rt: &LibcRuntime, tally: &mut Tally) -> io::Result<()> {
+pub(crate) fn runs(rt: &LibcRuntime, tally: &mut Tally) -> io::Result<()> {
     over_numbers(rt, tally)?;
     over_constant_hash(rt, tally)?;
     Ok(())

@@ -29,14 +29,14 @@ pub impl Sample for TrainTag as TrainTagSample {
 }
 
 // The number of a refusal, and 0 for what was carried out.
-pub fn refusal(answer: Result<(), SetFault>) -> u8 {
+pub(crate) fn refusal(answer: Result<(), SetFault>) -> u8 {
     match answer {
         Ok(()) => 0,
         Err(fault) => fault.number(),
     }
 }
 
-pub fn splice_refusal(answer: Result<u32, SetFault>) -> u8 {
+pub(crate) fn splice_refusal(answer: Result<u32, SetFault>) -> u8 {
     match answer {
         Ok(_) => 0,
         Err(fault) => fault.number(),
@@ -44,7 +44,7 @@ pub fn splice_refusal(answer: Result<u32, SetFault>) -> u8 {
 }
 
 // Whether a lookup gave this key.
-pub fn is_key<K: Key>(found: Option<K>, key: K) -> bool {
+pub(crate) fn is_key<K: Key>(found: Option<K>, key: K) -> bool {
     match found {
         Some(other) => other.same(&key),
         None => false,

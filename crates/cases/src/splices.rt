@@ -31,7 +31,7 @@ const X: RuleNumber = RuleNumber { value: 7 };
 const Y: RuleNumber = RuleNumber { value: 8 };
 
 // Whether the order is the one given.
-pub fn is_order<S: OrderedSet<RuleNumber>>(set: &mut S, keys: &[RuleNumber]) -> bool {
+pub(crate) fn is_order<S: OrderedSet<RuleNumber>>(set: &mut S, keys: &[RuleNumber]) -> bool {
     for (place, key) in keys.iter().enumerate() {
         let Ok(place) = u32::try_from(place) else {
             return false;
@@ -143,7 +143,7 @@ fn over_pile(tally: &mut Tally) {
     walked(tally, &mut pile);
 }
 
-pub fn examples(tally: &mut Tally) {
+pub(crate) fn examples(tally: &mut Tally) {
     over_plain_row(tally);
     over_plain_row_again(tally);
     over_pile(tally);

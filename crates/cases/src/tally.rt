@@ -12,7 +12,7 @@ pub struct Tally {
 }
 
 impl Tally {
-    pub fn new() -> Tally {
+    pub(crate) fn new() -> Tally {
         Tally {
             held: 0,
             failed: 0,
@@ -20,7 +20,7 @@ impl Tally {
         }
     }
 
-    pub fn check(&mut self, what: &str, holds: bool) {
+    pub(crate) fn check(&mut self, what: &str, holds: bool) {
         if holds {
             self.held = self.held.saturating_add(1);
             return;
@@ -36,7 +36,7 @@ impl Tally {
     }
 
     // Prints what was counted under a title, and begins anew.
-    pub fn close(&mut self, rt: &LibcRuntime, title: &str) -> io::Result<()> {
+    pub(crate) fn close(&mut self, rt: &LibcRuntime, title: &str) -> io::Result<()> {
         let held = self.held;
         let failed = self.failed;
         println!(rt, "{title}: {held} held, {failed} failed")?;

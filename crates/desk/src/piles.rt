@@ -27,20 +27,20 @@ pub type RulesPile<'r, 'n> = LastPlace<RuleNumber, Loan<'r, SkipList<'n, RuleNum
 
 pub type YardPile<'y, 't> = Limit<LastPlace<TrainTag, Loan<'y, SkipList<'t, TrainTag>>>>;
 
-// A last place over the list, which begins anew.
-pub fn rules_pile<'r, 'n>(list: &'r mut SkipList<'n, RuleNumber>) -> RulesPile<'r, 'n>
+// A last place over the list of rule numbers, which begins anew.
+pub fn rules_pile<'r, 'n>(numbers: &'r mut SkipList<'n, RuleNumber>) -> RulesPile<'r, 'n>
     ensures sound { λ r. ⌜ rules .sound r ⌝ }
-    ensures empty { λ r. ⌜ rules .meaning r ≡ vacant (size (now (list .entry) .lent)) ⌝ }
+    ensures empty { λ r. ⌜ rules .meaning r ≡ vacant (size (now (numbers .entry) .lent)) ⌝ }
 {
-    list.clear();
-    LastPlace::new(Loan::new(list))
+    numbers.clear();
+    LastPlace::new(Loan::new(numbers))
 }
 
-// A limit over a last place over the list, which begins anew.
-pub fn yard_pile<'y, 't>(list: &'y mut SkipList<'t, TrainTag>) -> YardPile<'y, 't>
+// A limit over a last place over the list of tags, which begins anew.
+pub fn yard_pile<'y, 't>(tags: &'y mut SkipList<'t, TrainTag>) -> YardPile<'y, 't>
     ensures sound { λ r. ⌜ yard .sound r ⌝ }
-    ensures empty { λ r. ⌜ yard .meaning r ≡ vacant (min 12 (size (now (list .entry) .lent))) ⌝ }
+    ensures empty { λ r. ⌜ yard .meaning r ≡ vacant (min 12 (size (now (tags .entry) .lent))) ⌝ }
 {
-    list.clear();
-    Limit::new(LastPlace::new(Loan::new(list)), BERTHS)
+    tags.clear();
+    Limit::new(LastPlace::new(Loan::new(tags)), BERTHS)
 }

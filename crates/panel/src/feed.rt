@@ -46,7 +46,7 @@ fn pump<R: Read>(
 }
 
 // Answers every line of the input; the last may lack its newline.
-pub fn feed<R: Read>(
+pub(crate) fn feed<R: Read>(
     rt: &LibcRuntime,
     input: &mut R,
     desk: &mut Desk<'_, '_, '_, '_>,

@@ -14,7 +14,7 @@ pub struct Gather {
 }
 
 impl Gather {
-    pub fn new() -> Gather
+    pub(crate) fn new() -> Gather
         ensures { λ r. ⌜ r .len ≡ 0 ⌝ }
     {
         Gather {
@@ -23,23 +23,23 @@ impl Gather {
         }
     }
 
-    pub fn is_empty(&self) -> bool {
+    pub(crate) fn is_empty(&self) -> bool {
         self.len == 0
     }
 
     // One byte more; past the 81st it is not kept.
-    pub fn push(&mut self, byte: u8) {
+    pub(crate) fn push(&mut self, byte: u8) {
         if self.len < KEPT {
             self.bytes[self.len] = byte;
             self.len += 1;
         }
     }
 
-    pub fn line(&self) -> &[u8] {
+    pub(crate) fn line(&self) -> &[u8] {
         &self.bytes[0..self.len]
     }
 
-    pub fn clear(&mut self) {
+    pub(crate) fn clear(&mut self) {
         self.len = 0;
     }
 }
