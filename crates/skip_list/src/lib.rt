@@ -9,6 +9,7 @@ pub mod level;
 pub mod list;
 pub mod memory;
 pub mod play;
+mod putting;
 pub mod report;
 mod reports;
 pub mod set;

@@ -8,7 +8,6 @@ ghost use Rattle.std.specs.Options.{isSome};
 ghost use Rattle.order.specs.Order.{InsertsAt, InsertsAfter, RemovesKey, RemovesAt};
 ghost use Rattle.skip_list.specs.Lent.{Sound, means};
 ghost use Rattle.skip_list.specs.History.{Deed, Told, ToldNext, afterAt, afterKey, afterPut, put};
-use crate::level::level_of;
 use crate::list::SkipList;
 use order::fault::SetFault;
 use order::key::HashKey;
@@ -64,7 +63,7 @@ pub impl<'a, K: HashKey> OrderedSet<K> for SkipList<'a, K> as SkipListSet {
             return Err(SetFault::NoPredecessor);
         };
         let place = self.lent.place(row);
-        self.insert_index(place + 1, key, draw)
+        self.put_absent(place + 1, key, draw)
     }
 
     fn insert_index(&mut self, place: u32, key: K, draw: u32) -> Result<(), SetFault>
@@ -76,15 +75,7 @@ pub impl<'a, K: HashKey> OrderedSet<K> for SkipList<'a, K> as SkipListSet {
         if self.lent.find(&key).is_some() {
             return Err(SetFault::Present);
         }
-        if place > self.lent.links.len {
-            return Err(SetFault::PastEnd);
-        }
-        if self.lent.full() {
-            return Err(SetFault::Full);
-        }
-        let level = level_of(draw);
-        self.lent.put(place, key, level);
-        Ok(())
+        self.put_absent(place, key, draw)
     }
 
     fn remove_key(&mut self, key: K) -> Option<u32>

@@ -46,13 +46,13 @@ add-place g c = omega (arith, c .place-place .ensures .0, within (c .args .self 
 pub returns : need.returns
 returns g c =
     record {
-      inserts = λ h. after-at _ _ (c .args .before) (c .args .key) (c .place-place .result) (c .insert-index .result)
+      inserts = λ h. after-at _ _ (c .args .before) (c .args .key) (c .place-place .result) (c .put-absent .result)
           (found-at (g .K·Key .identity) (g .K·HashKey .hashed) (g .K·Key·met .whole) (c .args .self .now .lent) (ready-list (c .args .self .now)) (c .args .before) (c .in-Some .row) (c .place-place .result) (c .in-Some .ensures tt .row _ (h .0)) (c .place-place .ensures))
-          (c .insert-index .ensures .inserts h);
-      sound = c .insert-index .ensures .sound;
-      kept = c .insert-index .ensures .kept;
-      told = λ h ds w. told-next ds _ (c .args .before) (c .args .key) (c .place-place .result) (c .args .draw) (c .insert-index .result)
+          (c .put-absent .ensures .inserts h (none-found (g .K·Key .identity) (g .K·HashKey .hashed) (g .K·Key·met .whole) (c .args .self .now .lent) (ready-list (c .args .self .now)) (c .args .key) (c .find .result) (sym (c .is-some .ensures) ∙ c .if-is-some .left) (c .find .ensures .row _ (h .0))));
+      sound = λ h. c .put-absent .ensures .sound h (none-found (g .K·Key .identity) (g .K·HashKey .hashed) (g .K·Key·met .whole) (c .args .self .now .lent) (ready-list (c .args .self .now)) (c .args .key) (c .find .result) (sym (c .is-some .ensures) ∙ c .if-is-some .left) (c .find .ensures .row _ (h .0)));
+      kept = c .put-absent .ensures .kept;
+      told = λ h ds w. told-next ds _ (c .args .before) (c .args .key) (c .place-place .result) (c .args .draw) (c .put-absent .result)
           (subst (λ (xs : List _). At xs (c .place-place .result) (c .args .before)) (w .order)
           (found-at (g .K·Key .identity) (g .K·HashKey .hashed) (g .K·Key·met .whole) (c .args .self .now .lent) (ready-list (c .args .self .now)) (c .args .before) (c .in-Some .row) (c .place-place .result) (c .in-Some .ensures tt .row _ (h .0)) (c .place-place .ensures)))
-          (c .insert-index .ensures .told h ds w);
+          (c .put-absent .ensures .told h (none-found (g .K·Key .identity) (g .K·HashKey .hashed) (g .K·Key·met .whole) (c .args .self .now .lent) (ready-list (c .args .self .now)) (c .args .key) (c .find .result) (sym (c .is-some .ensures) ∙ c .if-is-some .left) (c .find .ensures .row _ (h .0))) ds w);
     }
