@@ -1,0 +1,2 @@
+-- The statement of the cases.
+pub mod Cases
