@@ -1,6 +1,7 @@
 -- An insertion at a place has one answer and leaves one meaning: the accepted one, and the three refused.
 use Prim.Native.Nat.{ℕ, _<_, _≤_}
-use mathlib.Core.Path.{_≡_, refl, ap}
+use mathlib.Core.Path.{_≡_, refl, ap, subst}
+use mathlib.Core.List.{List, [], _∷_, _++_}
 use native.Mathlib.Omega.{arith}
 use lib.ListN.{length}
 use Rattle.std.specs.Holes.{inserted}
@@ -9,12 +10,12 @@ use Rattle.std.specs.declared.result.Result.the-variants.{Ok, Err}
 use Rattle.order.specs.Order.{Meaning, ordered, Absent, Stands, Admits, Refuses, InsertsAt}
 use Rattle.order.specs.declared.fault.SetFault.{SetFault}
 use Rattle.order.specs.declared.fault.SetFault.the-variants.{Present, NoPredecessor, PastEnd, Full, Uneven}
-use Rattle.book.proofs.Moving.{none-refuses}
+use Rattle.book.proofs.Moving.{none-refuses, put-last}
 use Rattle.worked.specs.Cases.{Only}
 
 module _ {K : Type 0} (v : Meaning K) (i : ℕ) (x : K) where
   -- where x may go in, it goes in
-  pub goes-in : Admits v i x → Only (InsertsAt v i x) (Ok tt) (ordered v (inserted (v .order) i x))
+  goes-in : Admits v i x → Only (InsertsAt v i x) (Ok tt) (ordered v (inserted (v .order) i x))
   goes-in admits = ((admits, refl), once)
     where
       once : (r : Result Unit SetFault) (w : Meaning K) → InsertsAt v i x r w → (r ≡ Ok tt) × (w ≡ ordered v (inserted (v .order) i x))
@@ -28,6 +29,11 @@ module _ {K : Type 0} (v : Meaning K) (i : ℕ) (x : K) where
       once : (r : Result Unit SetFault) (w : Meaning K) → InsertsAt v i x r w → (r ≡ Err e) × (w ≡ v)
       once (Ok _) w (admits, _) = absurd (none-refuses v i x e admits refuses)
       once (Err f) w (other, left) = (ap (λ (g : SetFault). Err g) (only f other), left)
+
+  pub last : length (v .order) ≡ i → i < v .room → Absent (v .order) x → Only (InsertsAt v i x) (Ok tt) (ordered v (v .order ++ x ∷ []))
+  last len room absent =
+      let behind : inserted (v .order) i x ≡ v .order ++ x ∷ [] = subst (λ (n : ℕ). inserted (v .order) n x ≡ v .order ++ x ∷ []) len (put-last (v .order) x) in
+      subst (λ (ys : List K). Only (InsertsAt v i x) (Ok tt) (ordered v ys)) behind (goes-in (absent, omega arith, omega arith))
 
   pub present : Stands (v .order) x → Only (InsertsAt v i x) (Err Present) v
   present (j, at) = turned-down Present (j, at) only

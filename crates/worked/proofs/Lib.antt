@@ -1,5 +1,6 @@
 -- The lemmas of the cases.
 mod Deciding
+mod Following
 mod Inserting
 mod Moving
 mod Splicing
