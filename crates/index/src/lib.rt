@@ -1,3 +1,3 @@
 // An index of keys by their hashes over lent slots: chains of rows, and the rows that are free.
-pub mod probe;
+pub mod chain;
 pub mod rows;

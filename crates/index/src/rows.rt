@@ -6,7 +6,7 @@ ghost use mathlib.Core.Bool.{true, false};
 ghost use lib.ListN.{length, set};
 ghost use denote.Ref.{now};
 ghost use Rattle.index.specs.Index.{Elsewhere, Index, Indexed, Row, Used, held, spot, tally};
-use crate::probe;
+use crate::chain;
 use order::key::HashKey;
 use order::key::Key;
 
@@ -35,7 +35,7 @@ impl<'a, K: HashKey> Rows<'a, K> {
         ensures chains { λ _. ⌜ ((home : ℕ → ℕ) → Indexed home (now (now (self .exit) .slots)) (length (now (now (self .entry) .keys))) (now (self .exit) .free) []) ⌝ }
     {
         let n = self.keys.len();
-        probe::clear(self.slots, n);
+        chain::clear(self.slots, n);
         self.free = 0;
     }
 
@@ -45,7 +45,7 @@ impl<'a, K: HashKey> Rows<'a, K> {
         ensures row { λ r. ⌜ ((rows : List ℕ) → Index (K·Key .identity) (K·HashKey .hashed) (now (now (self .entry) .keys)) (now (now (self .entry) .slots)) (now (self .entry) .free) rows → Row (K·Key .identity) (now (now (self .entry) .keys)) rows (now (key .entry)) r) ⌝ }
         ensures used { λ r. ⌜ ((home : ℕ → ℕ) (rows : List ℕ) → Indexed home (now (now (self .entry) .slots)) (length (now (now (self .entry) .keys))) (now (self .entry) .free) rows → Used home (spot (K·HashKey .hashed) (length (now (now (self .entry) .keys))) (K·Key .identity (now (key .entry)))) rows r) ⌝ }
     {
-        probe::find(self.keys, self.slots, key)
+        chain::find(self.keys, self.slots, key)
     }
 
     // Whether a key leads to a row.
@@ -72,8 +72,8 @@ impl<'a, K: HashKey> Rows<'a, K> {
     {
         let n = self.keys.len();
         let row = self.free;
-        let head = probe::head(&key, n as u32) as usize;
-        self.free = probe::link(self.slots, n, head, row);
+        let head = chain::head(&key, n as u32) as usize;
+        self.free = chain::link(self.slots, n, head, row);
         self.keys[row as usize] = key;
     }
 
@@ -87,9 +87,9 @@ impl<'a, K: HashKey> Rows<'a, K> {
         ensures chains { λ _. ⌜ ((home : ℕ → ℕ) (rows : List ℕ) → home row ≡ spot (K·HashKey .hashed) (length (now (now (self .entry) .keys))) (K·Key .identity (now (key .entry))) → Indexed home (now (now (self .entry) .slots)) (length (now (now (self .entry) .keys))) (now (self .entry) .free) (row ∷ rows) → Indexed home (now (now (self .exit) .slots)) (length (now (now (self .entry) .keys))) (now (self .exit) .free) rows) ⌝ }
     {
         let n = self.keys.len();
-        let head = probe::head(key, n as u32) as usize;
+        let head = chain::head(key, n as u32) as usize;
         let free = self.free;
-        probe::unlink(self.slots, n, head, row, free);
+        chain::unlink(self.slots, n, head, row, free);
         self.free = row;
     }
 }

@@ -8,7 +8,7 @@ ghost use Rattle.order.specs.Order.{At};
 ghost use Rattle.index.specs.Index.{Index, Row, Used, spot, tally};
 ghost use Rattle.skip_list.specs.Lent.{Chained, Ready, keysOf, kept, used, size};
 ghost use Rattle.skip_list.specs.Tower.{height, highs};
-use index::probe;
+use index::chain;
 use index::rows::Rows as KeyRows;
 use links::Row as LinkRow;
 use links::Rows as LinkRows;
@@ -49,7 +49,7 @@ impl<'a, K: HashKey> Lent<'a, K> {
         let keys = &mut keys[0..n];
         let rows = &mut rows[0..n];
         let slots = &mut slots[0..2 * n];
-        probe::clear(slots, n);
+        chain::clear(slots, n);
         Lent {
             index: KeyRows {
                 keys,
