@@ -64,7 +64,8 @@ impl<'a, K: HashKey> SkipList<'a, K> {
     }
 }
 
-// Makes a list over lent memory, and carries out a script of calls on it.
+// Makes a list over lent memory, and carries out a script of calls on it. Whatever the calls, refused ones among them: each answer is
+// the one due, and the order, the levels, the height and every kept link are those that the accepted calls built.
 pub fn play<'a, 'b, K: HashKey>(
     keys: &'a mut [K],
     rows: &'a mut [Row],
