@@ -70,7 +70,7 @@ not-vacant (Ok u) v w no-room = λ vacant. absurd (no-room vacant)
 not-vacant (Err f) v w no-room = no-room
 
 -- with 9 before 4, turnout 12 and class F are decided by 9 and 7
-nine-decides : (v : Pages) → NineThenFour v → Decides v (approach 12 70) (Some (9, 7))
+pub nine-decides : (v : Pages) → NineThenFour v → Decides v (approach 12 70) (Some (9, 7))
 nine-decides v two =
     let made = two .nine-is in
     let at : At (v .numbers .order) 0 (key 9) = subst (λ (xs : List RuleNumber). At xs 0 (key 9)) (sym (two .in-order)) (omega arith, refl) in
