@@ -40,6 +40,7 @@ fn removal(numbers: &mut Numbers, script: &Script, keys: u64) -> Call {
     }
 }
 
+/// A script that looks at all there is after every so many turns, and at the end.
 pub fn script(seed: u64, around: usize, turns: usize, every: usize) -> Script {
     let mut numbers = Numbers::new(seed);
     let keys = (around as u64 * 5 / 4 + 3).max(8);
@@ -48,14 +49,13 @@ pub fn script(seed: u64, around: usize, turns: usize, every: usize) -> Script {
         let call = insertion(&mut numbers, &script, keys);
         script.call(&call);
     }
-    script.look(&[]);
     for turn in 0..turns {
         let fill = script.original.len() < around || (script.original.len() == around && numbers.below(2) == 0);
         let call = if fill || numbers.below(8) == 0 { insertion(&mut numbers, &script, keys) } else { removal(&mut numbers, &script, keys) };
         script.call(&call);
         let absent = numbers.below(keys) as u16;
         script.call(&Call::IndexOf(absent));
-        if turn % every == 0 {
+        if turn % every == every - 1 {
             script.look(&[absent]);
         }
     }
