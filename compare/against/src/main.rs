@@ -11,24 +11,30 @@ mod short;
 
 use script::Tally;
 
-fn told(what: &str, run: impl FnOnce(&mut Tally)) -> u64 {
-    let mut tally = Tally::default();
-    run(&mut tally);
+fn print(what: &str, tally: &Tally) {
     println!(
         "{what}: {} scripts, {} calls ({} refused), {} links, {} reports, {} damaged inputs: {} differences",
         tally.scripts, tally.calls, tally.refusals, tally.links, tally.reports, tally.damaged, tally.differences
     );
-    tally.differences
+}
+
+fn compare() -> u64 {
+    let mut all = Tally::default();
+    let parts: [(&str, fn(&mut Tally)); 3] = [("short scripts", short::all), ("long scripts", long::all), ("damaged", damage::all)];
+    for (what, run) in parts {
+        let mut tally = Tally::default();
+        run(&mut tally);
+        print(what, &tally);
+        all += tally;
+    }
+    print("in all", &all);
+    all.differences
 }
 
 fn main() {
     let word = std::env::args().nth(1).unwrap_or_default();
     match word.as_str() {
-        "" => {
-            let found = told("short scripts", short::all) + told("long scripts", long::all) + told("damaged", damage::all);
-            println!("{found} differences");
-            std::process::exit((found > 0) as i32);
-        }
+        "" => std::process::exit((compare() > 0) as i32),
         "differences" => differences::show(),
         "record" => record::write(),
         "bench" => bench::run(),

@@ -29,6 +29,18 @@ pub struct Tally {
     pub differences: u64,
 }
 
+impl std::ops::AddAssign for Tally {
+    fn add_assign(&mut self, other: Tally) {
+        self.scripts += other.scripts;
+        self.calls += other.calls;
+        self.refusals += other.refusals;
+        self.reports += other.reports;
+        self.links += other.links;
+        self.damaged += other.damaged;
+        self.differences += other.differences;
+    }
+}
+
 #[derive(Clone)]
 pub struct Script {
     pub original: Original<u16>,
