@@ -1,8 +1,8 @@
 -- A run underway: what the first commands did and wrote, and one command more.
-use Prim.Native.Nat.{ℕ, suc, min, _+_, _*_, _≤_}
+use Prim.Native.Nat.{ℕ, _+_, _*_, _≤_}
 use mathlib.Core.Path.{_≡_, refl, sym, ap, subst, _∙_}
-use mathlib.Core.Logic.{_⊎_, inl, inr}
-use mathlib.Core.List.{List, [], _∷_, _++_}
+use mathlib.Core.Logic.{inl, inr}
+use mathlib.Core.List.{List, [], _++_}
 use native.Mathlib.Omega.{arith}
 use native.Mathlib.Numerals.{add-one}
 use lib.ListN.{length, take, drop, length-append}
@@ -19,7 +19,7 @@ use Rattle.host.specs.declared.reply.Reply.{Reply}
 use Rattle.host.specs.Bytes.{commandAt, reportCount}
 use Rattle.host.specs.Commands.{Reads}
 use Rattle.host.specs.Replies.{laid, reportOf}
-use Rattle.host.specs.Runs.{Answers, Carried, Does, Standing, Written, fresh}
+use Rattle.host.specs.Runs.{Answers, Carried, Does, Standing, Written}
 
 -- memory for 256 rows
 pub all-rows : (n : ℕ) → Usable 256 256 512 n → n ≡ 256

@@ -3,7 +3,7 @@
 --     Does n s c r t              in a list of n rows the command c takes s to t, and is answered r
 --     Written n cs i s bytes      the first i commands take a new list to s, and their reports are these bytes
 --     Answers cs before r after   the output after a run: the reports, and behind them what was there before
-use Prim.Native.Nat.{ℕ, zero, suc, _*_, _<_, _≤_}
+use Prim.Native.Nat.{ℕ, zero, suc}
 use mathlib.Core.Path.{_≡_}
 use mathlib.Core.Bool.{Bool, true, false}
 use mathlib.Core.List.{List, [], _∷_, _++_}
@@ -26,13 +26,14 @@ use Rattle.skip_list.specs.declared.call.Call.the-variants as call
 use Rattle.skip_list.specs.declared.fault.ListFault.{ListFault}
 use Rattle.skip_list.specs.declared.lent.Lent.{Lent}
 use Rattle.skip_list.specs.declared.report.KeyLinks.{KeyLinks}
+use Rattle.host.specs.declared.carry.Pending.{Pending}
 use Rattle.host.specs.declared.command.Command.{Command}
 use Rattle.host.specs.declared.command.Command.the-variants.{Capacity, HeadLinks, HoldDraw, HoldKey, IndexOf, InsertAfter, InsertHead, InsertIndex, KeyOf, Length, Level, Links, NoLetter, Push, RemoveIndex, RemoveKey, Short, Splice}
 use Rattle.host.specs.declared.reply.Reply.{Reply}
 use Rattle.host.specs.declared.reply.Reply.the-variants.{CutOff, Done, Number, Refused, Unknown}
 use Rattle.host.specs.Bytes.{commandAt, reportCount}
 use Rattle.host.specs.Commands.{Reads}
-use Rattle.host.specs.Held.{Holds}
+use Rattle.host.specs.Held.{Holds, waiting}
 use Rattle.host.specs.Replies.{laid, levelReply, linkReply, replyTo, reportOf}
 
 pub record Standing : Type 0 where
@@ -95,6 +96,11 @@ pub record Carried (ds : List (Deed RuleNumber)) (s : Lent RuleNumber) (ks : Lis
   pub does : Does (size s) (record { deeds = ds; keys = ks; draws = us }) c r (record { deeds = after; keys = ls; draws = vs })
   pub told : Told after t
   pub room : size t ≡ size s
+
+-- a command on a right list that some deeds built, with what waits before it and after it
+abbrev pub Served : Lent RuleNumber → Pending → Command → Reply → Lent RuleNumber → Pending → Type 0
+Served s p c r t q =
+    Right s → (ds : List (Deed RuleNumber)) → Told ds s → Carried ds s (waiting (p .keys)) (waiting (p .draws)) c r t (waiting (q .keys)) (waiting (q .draws))
 
 abbrev pub Written : ℕ → List ℕ → ℕ → Standing → List ℕ → Type 0
 Written n commands zero s bytes = (s ≡ fresh) × (bytes ≡ [])

@@ -3,7 +3,7 @@ ghost use mathlib.Core.Path.{_≡_};
 ghost use mathlib.Core.List.{List, []};
 ghost use Rattle.order.specs.declared.keys.RuleNumber.{RuleNumber as Number};
 ghost use Rattle.skip_list.specs.History.{Deed, Told};
-ghost use Rattle.host.specs.Runs.{Carried, Right, SplicedIn, heldReply};
+ghost use Rattle.host.specs.Runs.{Right, Served, SplicedIn, heldReply};
 ghost use Rattle.host.specs.Held.{waiting};
 use crate::command::Command;
 use crate::held::Held;
@@ -55,7 +55,7 @@ pub fn carry_out(
     command: Command,
 ) -> Reply
     ensures right { λ _. ⌜ (Right (now (list .entry) .lent) → Right (now (list .exit) .lent)) ⌝ }
-    ensures carried { λ r. ⌜ (Right (now (list .entry) .lent) → (ds : List (Deed Number)) → Told ds (now (list .entry) .lent) → Carried ds (now (list .entry) .lent) (waiting (now (pending .entry) .keys)) (waiting (now (pending .entry) .draws)) command r (now (list .exit) .lent) (waiting (now (pending .exit) .keys)) (waiting (now (pending .exit) .draws))) ⌝ }
+    ensures served { λ r. ⌜ Served (now (list .entry) .lent) (now (pending .entry)) command r (now (list .exit) .lent) (now (pending .exit)) ⌝ }
 {
     match command {
         Command::InsertHead { key, draw } => put_reply(list.insert_head(key, draw)),

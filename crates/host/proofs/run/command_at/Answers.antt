@@ -1,3 +1,4 @@
+-- Why `command_at` keeps its contract.
 use borrow.Author.Needs.{needs}
 use Rattle.std.proofs.shelf.Lists.{take-all, length-drop}
 use Rattle.host.proofs.run.command_at.Needs as need

@@ -1,3 +1,4 @@
+-- Why `put_report` keeps its contract.
 use borrow.Author.Needs.{needs}
 use Rattle.std.proofs.shelf.Parts.{overwrites}
 use Rattle.host.proofs.run.put_report.Needs as need

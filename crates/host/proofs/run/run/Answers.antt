@@ -1,13 +1,12 @@
 -- Why `run` keeps its contract.
 use Prim.Native.Nat.{ℕ, _*_}
-use mathlib.Core.Path.{_≡_, ap, subst, sym, _∙_}
+use mathlib.Core.Path.{_≡_, ap, subst, _∙_}
 use mathlib.Core.List.{List}
 use native.Mathlib.Omega.{arith}
 use lib.Seq.{paste}
 use Rattle.host.specs.Commands.{Reads}
 use Rattle.host.specs.Replies.{laid}
 use Rattle.host.specs.Runs.{Answers}
-use Rattle.host.specs.declared.reply.Report.{Report}
 use Rattle.host.proofs.Running.{all-rows, underway-all, underway-more, underway-none}
 use Rattle.host.proofs.run.run.Needs as need
 
@@ -21,7 +20,7 @@ loop-i-again c =
       c .carry-out-reply .ensures .right h,
       underway-more _ _ (c .loop-i .i) _ _ _ _ _ _ _ _ (c .carry-out-reply .result) (c .loop-i .inv .1)
           (subst (λ (b : List ℕ). Reads b (c .read-command .result)) (c .command-at .ensures) (c .read-command .ensures))
-          (c .carry-out-reply .ensures .carried h)
+          (c .carry-out-reply .ensures .served h)
           _ (c .put-report .ensures ∙ ap (λ (b : List ℕ). paste (c .loop-i .out) (16 * c .loop-i .i) b 16) bytes),
     )
 
