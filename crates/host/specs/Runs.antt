@@ -11,8 +11,10 @@ use lib.ListN.{length, drop}
 use Rattle.std.specs.declared.option.Option.{Option}
 use Rattle.std.specs.declared.option.Option.the-variants.{Some, None}
 use Rattle.std.specs.declared.result.Result.{Result}
+use Rattle.order.specs.Faults.{setNumber}
 use Rattle.order.specs.Keys.{numberHash}
 use Rattle.order.specs.declared.fault.SetFault.{SetFault}
+use Rattle.order.specs.declared.fault.SetFault.the-variants.{Full}
 use Rattle.order.specs.declared.keys.RuleNumber.{RuleNumber}
 use Rattle.skip_list.specs.History.{Deed, LevelTold, Told, heightAfter, levelsAfter, orderAfter}
 use Rattle.skip_list.specs.Lent.{Sound, size}
@@ -52,10 +54,10 @@ Right s = Sound s (λ k. k .value ∷ []) numberHash
 abbrev pub Asks : ℕ → Standing → Call RuleNumber → Reply → Standing → Type 0
 Asks n s c r t = (a : Answer RuleNumber) × Adds n (s .deeds) c a (t .deeds) × (r ≡ replyTo a) × (t .keys ≡ s .keys) × (t .draws ≡ s .draws)
 
--- whether one more waits is told as done, or refused with 4
+-- whether one more waits is told as done, or refused as full
 abbrev pub heldReply : Bool → Reply
 heldReply true = Done
-heldReply false = Refused 4
+heldReply false = Refused (setNumber Full)
 
 -- a link report of a key, or of the head
 abbrev pub ShowsLinks : Standing → Option RuleNumber → ℕ → Reply → Type 0

@@ -14,6 +14,7 @@ use crate::reply::link_reply;
 use crate::reply::place_reply;
 use crate::reply::put_reply;
 use crate::reply::splice_reply;
+use order::fault::SetFault;
 use order::keys::RuleNumber;
 use order::keys::RuleNumberHashKey;
 use order::keys::RuleNumberKey;
@@ -32,7 +33,11 @@ pub struct Pending {
 fn held_reply(held: bool) -> Reply
     ensures { λ r. ⌜ r ≡ heldReply held ⌝ }
 {
-    if held { Reply::Done } else { Reply::Refused(4) }
+    if held {
+        Reply::Done
+    } else {
+        Reply::Refused(SetFault::Full.number())
+    }
 }
 
 // Splices in what waits, which then waits no more.
