@@ -1,5 +1,4 @@
 //! Compares the row list, through the host's call, with the Rust original: every answer and every link.
-mod bench;
 mod damage;
 mod differences;
 mod host;
@@ -37,7 +36,6 @@ fn main() {
         "" => std::process::exit((compare() > 0) as i32),
         "differences" => differences::show(),
         "record" => record::write(),
-        "bench" => bench::run(),
-        _ => panic!("no word, or one of: differences, record, bench"),
+        _ => panic!("no word, or one of: differences, record"),
     }
 }
