@@ -1,4 +1,6 @@
 // The rule book and the panel, over any ordered sets: the order alone sets the route.
+#![tactic(auto)]
+
 pub mod approach;
 pub mod book;
 pub mod call;

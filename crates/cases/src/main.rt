@@ -1,4 +1,6 @@
 // The test program: worked examples, the edges of every refusal, piles of layers, and random runs against a plain model.
+#![tactic(auto)]
+
 mod edges;
 mod model;
 mod panels;

@@ -1,4 +1,6 @@
 // The host's call: a new row list of 256 rule numbers is driven by the commands of a byte slice, and each command is answered by a report.
+#![tactic(auto)]
+
 ghost use Rattle.std.specs.Prelude.{◌≡◌, ◌*◌, length};
 ghost use Rattle.host.specs.Runs.{Answers};
 ghost use Rattle.host.specs.Bytes.{report_count};

@@ -1,4 +1,6 @@
 // Rows in sequence by links at sixteen levels over lent memory: no key, only row numbers.
+#![tactic(auto)]
+
 mod cells;
 mod entering;
 mod leaving;

@@ -1,4 +1,6 @@
 // The signalling panel: answers the lines of standard input, or of a file, one by one.
+#![tactic(auto)]
+
 mod feed;
 mod gather;
 

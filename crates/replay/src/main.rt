@@ -1,4 +1,6 @@
 // Replays recorded commands through the host's call, and counts the reports that are as recorded.
+#![tactic(auto)]
+
 mod hex;
 mod lines;
 mod script;

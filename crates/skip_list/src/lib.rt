@@ -1,4 +1,6 @@
 // The row list: an indexed skip list over lent rows, which is an ordered set.
+#![tactic(auto)]
+
 pub mod call;
 pub mod examples;
 pub mod fault;

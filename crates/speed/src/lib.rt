@@ -1,4 +1,6 @@
 // Work for a stopwatch: the same calls on a row list or on a plain row, driven by one generator. What is answered is a checksum.
+#![tactic(auto)]
+
 mod dice;
 mod work;
 
