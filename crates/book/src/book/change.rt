@@ -48,7 +48,7 @@ impl<S: OrderedSet<RuleNumber>> Book<S> {
     pub fn move_rule(&mut self, number: u16, place: u32, draw: u32) -> Result<u32, BookFault>
         ensures moves { Across S.OrderedSet self.old self.new (Moves number place result) }
         ensures sound { Lasts S.OrderedSet self.old self.new }
-        ensures kept { sound self.old.set → is_ok result ≡ false → Kept S.OrderedSet self.old self.new }
+        ensures kept { S.sound self.old.set → is_ok result ≡ false → Kept S.OrderedSet self.old self.new }
     {
         if number > 255 {
             return Err(BookFault::BadNumber);

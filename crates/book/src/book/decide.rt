@@ -13,7 +13,7 @@ use order::set::OrderedSet;
 impl<S: OrderedSet<RuleNumber>> Book<S> {
     // The number and route of the first rule of the order that matches.
     pub(crate) fn first_match(&mut self, asked: Approach) -> Option<(u16, u8)>
-        ensures decides { sound self.old.set → Decides (pages S.OrderedSet self.old) asked result }
+        ensures decides { S.sound self.old.set → Decides (pages S.OrderedSet self.old) asked result }
         ensures same { Across S.OrderedSet self.old self.new (λ v w. w ≡ v) }
         ensures sound { Lasts S.OrderedSet self.old self.new }
         ensures kept { Kept S.OrderedSet self.old self.new }

@@ -21,8 +21,8 @@ fn push_train<Y: OrderedSet<TrainTag>>(
     draw: u32,
 ) -> Result<u32, YardFault>
     ensures pushes { OverSet Y.OrderedSet yard.old yard.new (Pushes tag result) }
-    ensures sound { sound yard.old → sound yard.new }
-    ensures kept { is_ok result ≡ false → body yard.new ≡ body yard.old }
+    ensures sound { Y.sound yard.old → Y.sound yard.new }
+    ensures kept { is_ok result ≡ false → Y.body yard.new ≡ Y.body yard.old }
 {
     let place = yard.length();
     push(yard, tag, draw)?;

@@ -9,8 +9,8 @@ link-requires c =
     let h = c.requires.1.1.1.1 in
     (subst (λ r. r < length (levels (cells c.args.self.now))) (sym (onto_row _ _ _ _ _ _ _ h c.if-over-pre.true).0) h.sound.1.0.0.1, c.requires.0)
 
-pub overflow-sub-result : goal.overflow-sub-result
-overflow-sub-result c = onto_least _ _ _ _ _ _ _ c.requires.1.1.1.1
+pub overflow_sub-result : goal.overflow_sub-result
+overflow_sub-result c = onto_least _ _ _ _ _ _ _ c.requires.1.1.1.1
 
 pub returns-then-over-pre : goal.returns-then-over-pre
 returns-then-over-pre c n xs ys h = onto_next _ _ _ _ _ _ xs ys h c.if-over-pre.true c.link.ensures

@@ -9,7 +9,7 @@ less : (t : ℕ) → 0 < t → (t - 1) + 1 ≡ t
 less t lt = omega arith
 
 pub loop-left-init : goal.loop-left-init
-loop-left-init c = ((λ xs ys p. descent_starts _ _ _ _ xs ys c.level-of-left.ensures p), refl, refl, omega (arith, c.level-of-left.ensures))
+loop-left-init c = ((λ xs ys p. descent_starts _ _ _ _ xs ys c.level_of-left.ensures p), refl, refl, omega (arith, c.level_of-left.ensures))
 
 pub approach-pre-requires : goal.approach-pre-requires
 approach-pre-requires c =
@@ -22,14 +22,14 @@ link-over-requires c =
     let h = descent_nears _ _ _ _ _ _ _ _ _ _ d (less _ c.loop-left-test.true) in
     (near_row _ _ _ _ (some_row _ _) h.1 (c.approach-pre.ensures _ _ h), omega (arith, c.loop-left.invariant.3, c.loop-left-test.true, c.requires.1.1.0.ring.head_tall.1))
 
-pub overflow-add-suc : goal.overflow-add-suc
-overflow-add-suc c =
+pub overflow_add-suc : goal.overflow_add-suc
+overflow_add-suc c =
     let d = c.loop-left.invariant.0 c.requires.0 c.requires.1.0 c.requires.1.1 in
     let h = descent_nears _ _ _ _ _ _ _ _ _ _ d (less _ c.loop-left-test.true) in
     omega (arith, (descent_sides _ _ _ _ _ _ _ _ _ _ _ d (less _ c.loop-left-test.true) (c.approach-pre.ensures _ _ h) c.link-over.ensures).1)
 
-pub overflow-sub-suc : goal.overflow-sub-suc
-overflow-sub-suc c =
+pub overflow_sub-suc : goal.overflow_sub-suc
+overflow_sub-suc c =
     let d = c.loop-left.invariant.0 c.requires.0 c.requires.1.0 c.requires.1.1 in
     let h = descent_nears _ _ _ _ _ _ _ _ _ _ d (less _ c.loop-left-test.true) in
     (descent_sides _ _ _ _ _ _ _ _ _ _ _ d (less _ c.loop-left-test.true) (c.approach-pre.ensures _ _ h) c.link-over.ensures).2

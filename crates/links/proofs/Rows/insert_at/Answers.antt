@@ -3,11 +3,11 @@ use Rattle.std.proofs.Common.{◌≡◌, ◌+◌, ◌∙◌, arith}
 use Rattle.links.proofs.Entries.{enters_count, entered}
 use Rattle.links.proofs.Rows.insert_at.Goals as goal
 
-pub overflow-cast-place : goal.overflow-cast-place
-overflow-cast-place c = omega (arith, c.requires.place, c.requires.room)
+pub overflow_cast-place : goal.overflow_cast-place
+overflow_cast-place c = omega (arith, c.requires.place, c.requires.room)
 
-pub overflow-add-place : goal.overflow-add-place
-overflow-add-place c = omega (arith, c.requires.place, c.requires.room)
+pub overflow_add-place : goal.overflow_add-place
+overflow_add-place c = omega (arith, c.requires.place, c.requires.room)
 
 pub raise-requires : goal.raise-requires
 raise-requires c = (_, c.requires)

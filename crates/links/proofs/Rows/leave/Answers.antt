@@ -1,6 +1,5 @@
 -- Why `leave` keeps its contract.
 use Rattle.std.proofs.Common.{◌≡◌, ℕ, ◌+◌, ◌-◌, ◌<◌, refl, ◌∙◌, arith}
-use Rattle.links.specs.Cells.{levels}
 use Rattle.links.proofs.Heads.{some_row}
 use Rattle.links.proofs.Descents.{near_row}
 use Rattle.links.proofs.Enters.{leaves_starts, leaves_onto, leaves_sides, leaves_row, leaves_ends, descent_nears, descent_step}
@@ -10,7 +9,7 @@ less : (t : ℕ) → 0 < t → (t - 1) + 1 ≡ t
 less t lt = omega arith
 
 pub loop-left-init : goal.loop-left-init
-loop-left-init c = ((λ n xs ys p. (leaves_starts _ _ _ _ xs ys c.level-of-left.ensures p, (λ e. absurd (omega (arith, c.level-of-left.ensures, p.0.head_tall.0))))), refl, refl, omega (arith, c.level-of-left.ensures))
+loop-left-init c = ((λ n xs ys p. (leaves_starts _ _ _ _ xs ys c.level_of-left.ensures p, (λ e. absurd (omega (arith, c.level_of-left.ensures, p.0.head_tall.0))))), refl, refl, omega (arith, c.level_of-left.ensures))
 
 pub approach-pre-requires : goal.approach-pre-requires
 approach-pre-requires c =

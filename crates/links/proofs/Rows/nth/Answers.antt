@@ -2,13 +2,13 @@
 use Rattle.links.proofs.Orders.{here_at, here_row, found}
 use Rattle.links.proofs.Rows.nth.Goals as goal
 
-pub row-at-requires : goal.row-at-requires
-row-at-requires c =
+pub row_at-requires : goal.row_at-requires
+row_at-requires c =
     let h = here_at _ _ _ c.requires.1 c.requires.0 in
     (_, (_, (_, (h.0, h.1, h.2))))
 
 pub returns : goal.returns
 returns c =
-    let is = found _ _ _ _ c.requires.1 c.requires.0 c.row-at.ensures in
+    let is = found _ _ _ _ c.requires.1 c.requires.0 c.row_at.ensures in
     let g = here_row _ _ _ _ c.requires.1 c.requires.0 is in
     record { row = is; low = g.sound.1.0.0.0; high = g.sound.1.0.0.1 }

@@ -3,11 +3,11 @@ use Rattle.std.proofs.Common.{◌≡◌, ◌+◌, ◌-◌, arith}
 use Rattle.links.proofs.Orders.{here_at, removed}
 use Rattle.links.proofs.Rows.remove_at.Goals as goal
 
-pub overflow-cast-place : goal.overflow-cast-place
-overflow-cast-place c = omega (arith, c.requires.0.1, c.requires.1)
+pub overflow_cast-place : goal.overflow_cast-place
+overflow_cast-place c = omega (arith, c.requires.0.1, c.requires.1)
 
-pub overflow-add-place : goal.overflow-add-place
-overflow-add-place c = omega (arith, c.requires.0.1, c.requires.1)
+pub overflow_add-place : goal.overflow_add-place
+overflow_add-place c = omega (arith, c.requires.0.1, c.requires.1)
 
 pub leave-row-requires : goal.leave-row-requires
 leave-row-requires c =

@@ -9,7 +9,7 @@ less : (t : ℕ) → 0 < t → (t - 1) + 1 ≡ t
 less t lt = omega arith
 
 pub loop-left-init : goal.loop-left-init
-loop-left-init c xs r ys g e = (stop_head _ xs _ refl (omega (arith, e)), omega (arith, c.level-of-left.ensures, g.head_tall.0), omega (arith, c.level-of-left.ensures))
+loop-left-init c xs r ys g e = (stop_head _ xs _ refl (omega (arith, e)), omega (arith, c.level_of-left.ensures, g.head_tall.0), omega (arith, c.level_of-left.ensures))
 
 pub approach-pre-requires : goal.approach-pre-requires
 approach-pre-requires c =

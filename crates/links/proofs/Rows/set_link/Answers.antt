@@ -5,13 +5,13 @@ use Rattle.links.proofs.Rows.set_link.Goals as goal
 
 pub returns-then-row-eq0 : goal.returns-then-row-eq0
 returns-then-row-eq0 c = record {
-  wrote = wrote_head _ _ _ _ _ _ _ c.if-row-eq0.true c.set-link.ensures.after c.set-link.ensures.there;
+  wrote = wrote_head _ _ _ _ _ _ _ c.if-row-eq0.true c.set_link.ensures.after c.set_link.ensures.there;
   len = refl;
 }
 
 pub returns-else-row-eq0 : goal.returns-else-row-eq0
 returns-else-row-eq0 c = record {
-  wrote = wrote_behind _ _ _ _ _ _ _ c.if-row-eq0.false c.set-link-else-row-eq0.ensures.after c.set-link-else-row-eq0.ensures.there;
+  wrote = wrote_behind _ _ _ _ _ _ _ c.if-row-eq0.false c.set_link-else-row-eq0.ensures.after c.set_link-else-row-eq0.ensures.there;
   len = refl;
 }
 

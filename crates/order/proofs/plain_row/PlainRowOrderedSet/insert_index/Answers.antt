@@ -4,18 +4,18 @@ use Rattle.order.specs.Order.{Distinct}
 use Rattle.order.proofs.Places.{told_apart, apart_inserted, none_found}
 use Rattle.order.proofs.plain_row.PlainRowOrderedSet.insert_index.Goals as goal
 
-pub invariant-of-self : goal.invariant-of-self
-invariant-of-self g c =
+pub invariant_of-self : goal.invariant_of-self
+invariant_of-self g c =
     let l = length-take-le c.args.self.now.lent.len c.args.self.now.lent.keys.now (omega arith) in
-    let n = none_found _ _ c.find.result c.find.ensures (sym c.is-some.ensures ∙ c.if-is-some.false) in
-    (omega arith, (omega arith, (∣ subst Distinct (sym c.put.ensures.order) (apart_inserted _ _ _ (omega arith) n (told_apart _ c.args.self.now.apart)) ∣₁, tt)))
+    let n = none_found _ _ c.find.result c.find.ensures (sym c.is_some.ensures ∙ c.if-is_some.false) in
+    record { within = omega arith; small = omega arith; apart = ∣ subst Distinct (sym c.put.ensures.order) (apart_inserted _ _ _ (omega arith) n (told_apart _ c.args.self.now.apart)) ∣₁ }
 
 pub returns : goal.returns
 returns g c =
     let l = length-take-le c.args.self.now.lent.len c.args.self.now.lent.keys.now (omega arith) in
     let d = c.put.ensures.order in
     let w = c.put.ensures.width in
-    let n = none_found _ _ c.find.result c.find.ensures (sym c.is-some.ensures ∙ c.if-is-some.false) in
+    let n = none_found _ _ c.find.result c.find.ensures (sym c.is_some.ensures ∙ c.if-is_some.false) in
     record {
       inserts = λ _. ((n, omega arith, omega arith), cc);
       sound = λ _. tt;
