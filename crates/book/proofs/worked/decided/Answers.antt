@@ -4,4 +4,4 @@ use Rattle.book.proofs.worked.decided.Goals as goal
 
 pub returns : goal.returns
 returns g c = λ h vacant.
-    case_decided _ _ c.decide.result (c.in-ok-nine-then-four.ensures.builds h vacant) (c.decide.ensures.decides (c.nine-then-four.ensures.sound h))
+    case_decided _ _ c.decide.result (c.in_ok-nine_then_four.ensures.builds h vacant) (c.decide.ensures.decides (c.nine_then_four.ensures.sound h))

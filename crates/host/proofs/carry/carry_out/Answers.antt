@@ -51,8 +51,8 @@ returns-in-IndexOf c =
 pub returns-in-KeyOf : goal.returns-in-KeyOf
 returns-in-KeyOf c =
     record {
-      right = c.key_of_lem.ensures.sound;
-      served = λ h ds w. by_call ds _ _ _ _ _ _ _ _ _ c.in-KeyOf.is (λ _ a. a) (carries_given ds _ _ w _ _ (c.key_of_lem.ensures.gives h).0 (ap (λ (x : SkipList RuleNumber). x.lent) c.key_of_lem.ensures.kept)) c.key-reply-in-KeyOf.ensures;
+      right = c.key_of.ensures.sound;
+      served = λ h ds w. by_call ds _ _ _ _ _ _ _ _ _ c.in-KeyOf.is (λ _ a. a) (carries_given ds _ _ w _ _ (c.key_of.ensures.gives h).0 (ap (λ (x : SkipList RuleNumber). x.lent) c.key_of.ensures.kept)) c.key-reply-in-KeyOf.ensures;
     }
 
 pub returns-in-Push : goal.returns-in-Push

@@ -9,6 +9,6 @@ pub loop-limit-preserved : goal.loop-limit-preserved
 loop-limit-preserved c =
     let i = c.loop-limit.limit-index in
     elim c.if-draw-limit.branch [
-      | then-draw-limit w ↦ omega (arith, w.level_is, c.loop-limit.invariant, more_over c.args.draw limits i c.loop-limit-test.true w.if-draw-limit.true)
-      | else-draw-limit w ↦ omega (arith, w.level_is, c.loop-limit.invariant, more_under c.args.draw limits i c.loop-limit-test.true w.if-draw-limit.false)
+      | then-draw-limit w ↦ omega (arith, w.level-is, c.loop-limit.invariant, more_over c.args.draw limits i c.loop-limit-test.true w.if-draw-limit.true)
+      | else-draw-limit w ↦ omega (arith, w.level-is, c.loop-limit.invariant, more_under c.args.draw limits i c.loop-limit-test.true w.if-draw-limit.false)
     ]

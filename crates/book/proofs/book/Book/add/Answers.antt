@@ -7,7 +7,7 @@ pub returns : goal.returns
 returns g c =
     let written = recorded_set c.args.self.now.rules c.args.number (Some c.args.rule) (omega arith) in
     record {
-      adds = λ h. let into = c.in-ok-insert-index.ensures.inserts h in ((omega arith, into.0, refl), cc);
-      sound = c.insert-index.ensures.sound;
+      adds = λ h. let into = c.in_ok-insert_index.ensures.inserts h in ((omega arith, into.0, refl), cc);
+      sound = c.insert_index.ensures.sound;
       kept = search rules;
     }

@@ -8,6 +8,6 @@ returns-in-Some g c =
     let written = recorded_set c.args.self.now.rules c.args.number None (omega arith) in
     record {
       drops = λ h. let out = c.in-Some.ensures.removes h in ((omega arith, out.0), cc);
-      sound = c.remove-key.ensures.sound;
+      sound = c.remove_key.ensures.sound;
       kept = search rules;
     }

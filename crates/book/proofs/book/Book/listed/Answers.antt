@@ -7,7 +7,7 @@ use Rattle.book.specs.Pages.{recorded, ruled}
 use Rattle.book.proofs.Listing.{list_past, list_room, list_ruled, listed_most}
 use Rattle.book.proofs.Places.{same_pages}
 use Rattle.book.proofs.book.Book.listed.Goals as goal
-use Rattle.book.proofs.book.Book.listed.Goals.{in-Some+then-ruled+then-count-lt256, in-Some+else-ruled, in-default, else-ruled-via-then-ruled+else-count-lt256, else-ruled-via-else-ruled}
+use Rattle.book.proofs.book.Book.listed.Goals.{in-Some+then-ruled+then-count-lt256, in-Some+else-ruled, in_default, else-ruled-via-then-ruled+else-count-lt256, else-ruled-via-else-ruled}
 
 pub loop-place-init : goal.loop-place-init
 loop-place-init g c = (omega arith, c.told-numbers, refl, refl, λ h. (h, refl, refl, refl, λ lt. absurd (omega arith)))
@@ -19,12 +19,12 @@ loop-place-preserved g c =
     let v = g.S.OrderedSet.meaning c.args.self.now.set in
     let records = c.args.self.now.rules in
     let cells = c.args.numbers.now in
-    let kept : g.S.OrderedSet.body c.key_of_lem.new.self ≡ g.S.OrderedSet.body c.args.self.now.set = cc in
+    let kept : g.S.OrderedSet.body c.key_of.new.self ≡ g.S.OrderedSet.body c.args.self.now.set = cc in
     let here : (n : RuleNumber) → g.S.OrderedSet.meaning c.loop-place.self.set ≡ v → At (g.S.OrderedSet.meaning c.loop-place.self.set).order p n → At v.order p n =
     λ n same. subst (λ (u : Meaning RuleNumber). At u.order p n) same in
-    elim c.match-key-of.branch [
+    elim c.match-key_of.branch [
       | in-Some+then-ruled+then-count-lt256 w ↦
-          let size : length records ≡ 256 = ap length (sym inv.3) ∙ w.rule-of.ensures.size in
+          let size : length records ≡ 256 = ap length (sym inv.3) ∙ w.rule_of.ensures.size in
           let has : is_some (recorded records w.in-Some.number.value) ≡ true = cc in (
             omega arith,
             ap length w.numbers-is ∙ length-set _ _ _ ∙ inv.1,
@@ -34,10 +34,10 @@ loop-place-preserved g c =
                 let past = inv.4 h in
                 let more = list_ruled records v.order cells c.loop-place.numbers p c.loop-place.count w.in-Some.number
                 (c.length-place-end.ensures.lawful h).apart size (here _ past.1 (w.in-Some.ensures.gives past.0).0) past.2 past.3 c.told-numbers has in
-                (c.key_of_lem.ensures.sound past.0, (c.key_of_lem.ensures.gives past.0).1 ∙ past.1, w.count-is ∙ more.0, w.numbers-is ∙ more.1, λ _. size),
+                (c.key_of.ensures.sound past.0, (c.key_of.ensures.gives past.0).1 ∙ past.1, w.count-is ∙ more.0, w.numbers-is ∙ more.1, λ _. size),
           )
       | in-Some+else-ruled w ↦
-          let size : length records ≡ 256 = ap length (sym inv.3) ∙ w.rule-of.ensures.size in (
+          let size : length records ≡ 256 = ap length (sym inv.3) ∙ w.rule_of.ensures.size in (
             omega arith,
             ap length w.numbers-is ∙ inv.1,
             kept,
@@ -57,9 +57,9 @@ loop-place-preserved g c =
                       let has : is_some (recorded records w.in-Some.number.value) ≡ false = cc in
                       list_past records v.order cells c.loop-place.numbers p c.loop-place.count w.in-Some.number apart size at past.2 past.3 has
                 ] in
-                (c.key_of_lem.ensures.sound past.0, (c.key_of_lem.ensures.gives past.0).1 ∙ past.1, w.count-is ∙ more.0, w.numbers-is ∙ more.1, λ _. size),
+                (c.key_of.ensures.sound past.0, (c.key_of.ensures.gives past.0).1 ∙ past.1, w.count-is ∙ more.0, w.numbers-is ∙ more.1, λ _. size),
           )
-      | in-default w ↦ (
+      | in_default w ↦ (
         omega arith,
         ap length w.numbers-is ∙ inv.1,
         kept,
@@ -67,7 +67,7 @@ loop-place-preserved g c =
         λ h.
             let past = inv.4 h in
             let len = ap (λ (u : Meaning RuleNumber). length u.order) past.1 in
-            absurd (omega (arith, (w.in-default.ensures.gives past.0).0, c.length-place-end.ensures.counts h)),
+            absurd (omega (arith, (w.in_default.ensures.gives past.0).0, c.length-place-end.ensures.counts h)),
       )
     ]
 

@@ -19,5 +19,5 @@ slice-bounds-result-start c = omega (arith, shorter c.args.self.now.left.now c.f
 pub returns-in-Risen : goal.returns-in-Risen
 returns-in-Risen c = record { value = capitals_are _ _ _ c.field.ensures.state c.field.ensures.left c.in-Risen.field-0 c.in-Risen.is; left = c.field.ensures.left }
 
-pub returns-in-default : goal.returns-in-default
-returns-in-default c = record { value = capitals_none _ _ _ c.field.ensures.state c.field.ensures.left c.in-default.not-Risen; left = c.field.ensures.left }
+pub returns-in_default : goal.returns-in_default
+returns-in_default c = record { value = capitals_none _ _ _ c.field.ensures.state c.field.ensures.left c.in_default.not-Risen; left = c.field.ensures.left }

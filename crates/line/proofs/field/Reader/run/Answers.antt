@@ -11,8 +11,8 @@ loop-self-preserved c =
     let f = further c.loop-self.self.state _ _ _ (first_rest c.loop-self.self.left.now 0 h) c.if-b-eq32.false in
     (rw c.step.ensures.state (f.0 ∙ c.loop-self.invariant.0), f.1 ∙ c.loop-self.invariant.1)
 
-pub returns-in-default : goal.returns-in-default
-returns-in-default c =
+pub returns-in_default : goal.returns-in_default
+returns-in_default c =
     let e : c.loop-self.self.left.now ≡ [] = nil_from_length _ (omega (arith, ltb-true)) in
     let i = simp e at c.loop-self.invariant in
     record { state = i.0; left = e ∙ i.1 }

@@ -5,14 +5,14 @@ use Rattle.skip_list.specs.Lent.{size}
 use Rattle.skip_list.proofs.Laws.{ahead_low, back_low, row_fits, row_linked, links_are}
 use Rattle.skip_list.proofs.lent.Lent.links_at.Goals as goal
 
-pub overflow-add-row : goal.overflow-add-row
-overflow-add-row g c = omega (arith, (row_fits c.args.self.now c.requires.0 _ _ c.requires.1.1).2)
+pub overflow_add-row : goal.overflow_add-row
+overflow_add-row g c = omega (arith, (row_fits c.args.self.now c.requires.0 _ _ c.requires.1.1).2)
 
 pub link-ahead-requires : goal.link-ahead-requires
 link-ahead-requires g c = let f = row_fits c.args.self.now c.requires.0 _ _ c.requires.1.1 in (f.0, omega (arith, f.1, c.requires.1.2))
 
-pub overflow-add-row-2 : goal.overflow-add-row-2
-overflow-add-row-2 g c = omega (arith, (row_fits c.args.self.now c.requires.0 _ _ c.requires.1.1).2)
+pub overflow_add-row-2 : goal.overflow_add-row-2
+overflow_add-row-2 g c = omega (arith, (row_fits c.args.self.now c.requires.0 _ _ c.requires.1.1).2)
 
 pub link-back-requires : goal.link-back-requires
 link-back-requires g c = let f = row_fits c.args.self.now c.requires.0 _ _ c.requires.1.1 in (f.0, omega (arith, f.1, c.requires.1.2))

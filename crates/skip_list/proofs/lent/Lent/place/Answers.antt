@@ -6,14 +6,14 @@ use Rattle.skip_list.proofs.Picks.{stands}
 use Rattle.skip_list.proofs.Readies.{split_at, row_low}
 use Rattle.skip_list.proofs.lent.Lent.place.Goals as goal
 
-pub overflow-add-row : goal.overflow-add-row
-overflow-add-row g c =
+pub overflow_add-row : goal.overflow_add-row
+overflow_add-row g c =
     let i = stands _ _ c.requires.1 in
     let low = row_low _ c.requires.0 i.0 c.args.row i.1 in
     omega (arith, low, c.requires.0.few)
 
-pub index-of-requires : goal.index-of-requires
-index-of-requires g c =
+pub index_of-requires : goal.index_of-requires
+index_of-requires g c =
     let i = stands _ _ c.requires.1 in
     let q = split_at _ c.requires.0 i.0 c.args.row i.1 in
     (q.0, q.1)
@@ -22,5 +22,5 @@ pub returns : goal.returns
 returns g c =
     let i = stands _ _ c.requires.1 in
     let q = split_at _ c.requires.0 i.0 c.args.row i.1 in
-    let e : i.0 ≡ c.index-of.result = q.2 ∙ sym (c.index-of.ensures q.0 q.1.0 q.1.1.0) in
+    let e : i.0 ≡ c.index_of.result = q.2 ∙ sym (c.index_of.ensures q.0 q.1.0 q.1.1.0) in
     subst (λ (x : ℕ). At (used c.args.self.now) x c.args.row) e i.1

@@ -8,10 +8,10 @@ use Rattle.skip_list.proofs.list.SkipList.clear.Goals as goal
 pub clear-requires : goal.clear-requires
 clear-requires g c = ready_list c.args.self.now
 
-pub invariant-of-self : goal.invariant-of-self
-invariant-of-self g c =
+pub invariant_of-self : goal.invariant_of-self
+invariant_of-self g c =
     let r = c.clear.ensures.ready in
-    (r.few, (r.twice, (r.sized, (∣ r.holds ∣₁, (∣ emptied c.clear.new.self c.clear.ensures.used (λ _. 0) c.clear.ensures.chains ∣₁, tt)))))
+    record { few = r.few; twice = r.twice; sized = r.sized; holds = ∣ r.holds ∣₁; chained = ∣ emptied c.clear.new.self c.clear.ensures.used (λ _. 0) c.clear.ensures.chains ∣₁ }
 
 pub returns : goal.returns
 returns g c =

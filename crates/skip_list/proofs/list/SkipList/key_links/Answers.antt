@@ -7,25 +7,25 @@ use Rattle.skip_list.proofs.list.SkipList.key_links.Goals as goal
 pub find-requires : goal.find-requires
 find-requires g c = ready_list c.args.self.now
 
-pub returns-in-default : goal.returns-in-default
-returns-in-default g c h = none_at g.K.Key.identity g.K.HashKey.hashed g.met.K.Key.whole c.args.self.now.lent (ready_list c.args.self.now) c.args.key (c.in-default.ensures.row _ h.0)
+pub returns-in_default : goal.returns-in_default
+returns-in_default g c h = none_at g.K.Key.identity g.K.HashKey.hashed g.met.K.Key.whole c.args.self.now.lent (ready_list c.args.self.now) c.args.key (c.in_default.ensures.row _ h.0)
 
-pub level-at-requires : goal.level-at-requires
-level-at-requires g c = (ready_list c.args.self.now, stands _ _ (found_used c.args.self.now.lent c.args.self.now.chained _ c.in-Some.row c.in-Some.ensures.used))
+pub level_at-requires : goal.level_at-requires
+level_at-requires g c = (ready_list c.args.self.now, stands _ _ (found_used c.args.self.now.lent c.args.self.now.chained _ c.in-Some.row c.in-Some.ensures.used))
 
-pub returns-then-level-level-at : goal.returns-then-level-level-at
-returns-then-level-level-at g c h =
+pub returns-then-level-level_at : goal.returns-then-level-level_at
+returns-then-level-level_at g c h =
     let f = c.in-Some.ensures.row _ h.0 in
     let i = stands _ _ f.0 in (
       i.0,
       found_at g.K.Key.identity g.K.HashKey.hashed g.met.K.Key.whole c.args.self.now.lent (ready_list c.args.self.now) c.args.key c.in-Some.row i.0 f i.1,
-      omega (arith, c.level-at.ensures i.0 i.1, c.if-level-level-at.true),
+      omega (arith, c.level_at.ensures i.0 i.1, c.if-level-level_at.true),
     )
 
-pub links-at-requires : goal.links-at-requires
-links-at-requires g c =
+pub links_at-requires : goal.links_at-requires
+links_at-requires g c =
     let i = stands _ _ (found_used c.args.self.now.lent c.args.self.now.chained _ c.in-Some.row c.in-Some.ensures.used) in
-    (ready_list c.args.self.now, (i.0, i.1, omega (arith, c.level-at.ensures i.0 i.1, c.if-level-level-at.false)))
+    (ready_list c.args.self.now, (i.0, i.1, omega (arith, c.level_at.ensures i.0 i.1, c.if-level-level_at.false)))
 
 pub returns : goal.returns
 returns g c h =
@@ -33,6 +33,6 @@ returns g c h =
     let i = stands _ _ f.0 in (
       i.0,
       found_at g.K.Key.identity g.K.HashKey.hashed g.met.K.Key.whole c.args.self.now.lent (ready_list c.args.self.now) c.args.key c.in-Some.row i.0 f i.1,
-      omega (arith, c.level-at.ensures i.0 i.1, c.if-level-level-at.false),
-      c.links-at.ensures i.0 i.1 (omega (arith, c.level-at.ensures i.0 i.1, c.if-level-level-at.false)),
+      omega (arith, c.level_at.ensures i.0 i.1, c.if-level-level_at.false),
+      c.links_at.ensures i.0 i.1 (omega (arith, c.level_at.ensures i.0 i.1, c.if-level-level_at.false)),
     )

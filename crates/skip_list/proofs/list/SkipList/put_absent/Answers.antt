@@ -43,29 +43,21 @@ returns-then-full g c =
 
 pub put-requires : goal.put-requires
 put-requires g c =
-    entering c.args.self.now.lent c.args.self.now.chained c.args.place c.level-of-level.result (ready_list c.args.self.now)
-    c.if-place-self.false (c.full.ensures.no c.if-full.false) c.level-of-level.ensures.low c.level-of-level.ensures.high
+    entering c.args.self.now.lent c.args.self.now.chained c.args.place c.level_of-level.result (ready_list c.args.self.now)
+    c.if-place-self.false (c.full.ensures.no c.if-full.false) c.level_of-level.ensures.low c.level_of-level.ensures.high
 
-pub invariant-of-self : goal.invariant-of-self
-invariant-of-self g c =
-    let r = c.put.ensures.ready in (
-      r.few,
-      (
-        r.twice,
-        (
-          r.sized,
-          (
-            ∣ r.holds ∣₁,
-            (
-              ∥∥₁_map c.args.self.now.chained (λ u.
-                  let m = moved u.0 c.args.self.now.lent.index.free _ in
-                  (m.0, c.put.ensures.chains u.0 m.0 m.1 m.2 u.1)),
-              tt,
-            ),
-          ),
-        ),
-      ),
-    )
+pub invariant_of-self : goal.invariant_of-self
+invariant_of-self g c =
+    let r = c.put.ensures.ready in
+    record {
+      few = r.few;
+      twice = r.twice;
+      sized = r.sized;
+      holds = ∣ r.holds ∣₁;
+      chained = ∥∥₁_map c.args.self.now.chained (λ u.
+          let m = moved u.0 c.args.self.now.lent.index.free _ in
+          (m.0, c.put.ensures.chains u.0 m.0 m.1 m.2 u.1));
+    }
 
 pub returns : goal.returns
 returns g c =
@@ -88,7 +80,7 @@ returns g c =
           a h;
       kept = λ e. absurd (true≢false e);
       told = λ h a ds w.
-          told_put ds c.args.self.now.lent c.put.new.self c.args.place c.args.key c.args.draw c.level-of-level.result c.put.ensures.ready w
+          told_put ds c.args.self.now.lent c.put.new.self c.args.place c.args.key c.args.draw c.level_of-level.result c.put.ensures.ready w
           a
-          (omega (arith, l, c.if-place-self.false)) k c.put.ensures.highs c.put.ensures.height c.level-of-level.ensures.level;
+          (omega (arith, l, c.if-place-self.false)) k c.put.ensures.highs c.put.ensures.height c.level_of-level.ensures.level;
     }

@@ -8,10 +8,10 @@ use Rattle.skip_list.proofs.list.SkipList.run.Goals as goal
 
 pub loop-turn-preserved : goal.loop-turn-preserved
 loop-turn-preserved g c = (
-  calls_stay c.loop-turn.turns c.loop-turn.turn-index c.take-turn.new.turn _ c.take-turn.ensures.called ∙ c.loop-turn.invariant.0,
+  calls_stay c.loop-turn.turns c.loop-turn.turn-index c.take_turn.new.turn _ c.take_turn.ensures.called ∙ c.loop-turn.invariant.0,
   λ h. let a = c.loop-turn.invariant.1 h in (
-    c.take-turn.ensures.sound a.0,
-    λ ds w. runs_more ds _ _ _ c.loop-turn.turns c.loop-turn.turn-index c.take-turn.new.turn (omega arith) (a.1 ds w) (c.take-turn.ensures.told a.0),
+    c.take_turn.ensures.sound a.0,
+    λ ds w. runs_more ds _ _ _ c.loop-turn.turns c.loop-turn.turn-index c.take_turn.new.turn (omega arith) (a.1 ds w) (c.take_turn.ensures.told a.0),
   ),
 )
 

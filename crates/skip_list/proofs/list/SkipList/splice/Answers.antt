@@ -7,11 +7,11 @@ use Rattle.skip_list.proofs.list.SkipList.splice.Goals as goal
 
 pub loop-i-preserved : goal.loop-i-preserved
 loop-i-preserved g c = (
-  omega (arith, c.in-ok-inserted.ensures.one),
+  omega (arith, c.in_ok-inserted.ensures.one),
   λ h. let a = c.loop-i.invariant.1 h in (
-    c.put-next.ensures.sound a.0,
+    c.put_next.ensures.sound a.0,
     λ ds w. let u = a.1 ds w in
-        underway_more ds _ _ _ _ _ _ _ _ _ _ _ _ c.loop-i-test.true (omega arith) c.index-keys-i.is refl u (c.in-ok-inserted.ensures.told a.0 u.after u.told),
+        underway_more ds _ _ _ _ _ _ _ _ _ _ _ _ c.loop-i-test.true (omega arith) c.index-keys-i.is refl u (c.in_ok-inserted.ensures.told a.0 u.after u.told),
   ),
 )
 

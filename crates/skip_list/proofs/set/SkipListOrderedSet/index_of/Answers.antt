@@ -8,12 +8,12 @@ use Rattle.skip_list.proofs.set.SkipListOrderedSet.index_of.Goals as goal
 pub find-requires : goal.find-requires
 find-requires g c = ready_list c.args.self.now
 
-pub returns-in-err-row : goal.returns-in-err-row
-returns-in-err-row g c =
+pub returns-in_err-row : goal.returns-in_err-row
+returns-in_err-row g c =
     record {
       finds = λ h. (
-        subst (λ o. Found (kept c.args.self.now.lent) c.args.key o) (sym c.from-residual.ensures)
-            (none_at g.K.Key.identity g.K.HashKey.hashed g.met.K.Key.whole c.args.self.now.lent (ready_list c.args.self.now) c.args.key (c.in-err-row.ensures.row _ h.0)),
+        subst (λ o. Found (kept c.args.self.now.lent) c.args.key o) (sym c.from_residual.ensures)
+            (none_at g.K.Key.identity g.K.HashKey.hashed g.met.K.Key.whole c.args.self.now.lent (ready_list c.args.self.now) c.args.key (c.in_err-row.ensures.row _ h.0)),
         refl,
       );
       sound = λ h. h;
@@ -21,12 +21,12 @@ returns-in-err-row g c =
     }
 
 pub place-requires : goal.place-requires
-place-requires g c = (ready_list c.args.self.now, found_used c.args.self.now.lent c.args.self.now.chained _ c.in-ok-row.row c.in-ok-row.ensures.used)
+place-requires g c = (ready_list c.args.self.now, found_used c.args.self.now.lent c.args.self.now.chained _ c.in_ok-row.row c.in_ok-row.ensures.used)
 
 pub returns : goal.returns
 returns g c =
     record {
-      finds = λ h. (found_at g.K.Key.identity g.K.HashKey.hashed g.met.K.Key.whole c.args.self.now.lent (ready_list c.args.self.now) c.args.key c.in-ok-row.row c.place.result (c.in-ok-row.ensures.row _ h.0) c.place.ensures, refl);
+      finds = λ h. (found_at g.K.Key.identity g.K.HashKey.hashed g.met.K.Key.whole c.args.self.now.lent (ready_list c.args.self.now) c.args.key c.in_ok-row.row c.place.result (c.in_ok-row.ensures.row _ h.0) c.place.ensures, refl);
       sound = λ h. h;
       kept = refl;
     }

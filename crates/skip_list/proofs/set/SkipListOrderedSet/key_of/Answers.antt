@@ -12,5 +12,5 @@ returns-then-place-self g c =
       kept = refl;
     }
 
-pub key-at-requires : goal.key-at-requires
-key-at-requires g c = (ready_list c.args.self.now, c.if-place-self.false)
+pub key_at-requires : goal.key_at-requires
+key_at-requires g c = (ready_list c.args.self.now, c.if-place-self.false)

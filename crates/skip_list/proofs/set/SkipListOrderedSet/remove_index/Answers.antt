@@ -16,20 +16,20 @@ returns-then-place-self g c =
       told = λ h ds w. w;
     }
 
-pub take-at-requires : goal.take-at-requires
-take-at-requires g c = (ready_list c.args.self.now, c.if-place-self.false)
+pub take_at-requires : goal.take_at-requires
+take_at-requires g c = (ready_list c.args.self.now, c.if-place-self.false)
 
-pub invariant-of-self : goal.invariant-of-self
-invariant-of-self g c =
-    let r = c.take-at.ensures.ready in
-    (r.few, (r.twice, (r.sized, (∣ r.holds ∣₁, (∥∥₁_map c.args.self.now.chained (λ u. (u.0, c.take-at.ensures.chains u.0 u.1)), tt)))))
+pub invariant_of-self : goal.invariant_of-self
+invariant_of-self g c =
+    let r = c.take_at.ensures.ready in
+    record { few = r.few; twice = r.twice; sized = r.sized; holds = ∣ r.holds ∣₁; chained = ∥∥₁_map c.args.self.now.chained (λ u. (u.0, c.take_at.ensures.chains u.0 u.1)) }
 
 pub returns : goal.returns
 returns g c =
     record {
-      removes = λ h. let t = c.take-at.ensures.taken h in (t.stood, means_taken c.args.self.now.lent c.take-at.new.self c.args.place c.take-at.result t);
-      sound = λ h. sound_taken g.K.Key.identity g.K.HashKey.hashed g.met.K.Key.whole c.args.self.now.lent (ready_list c.args.self.now) c.take-at.new.self c.args.place c.take-at.result (c.take-at.ensures.taken h) c.take-at.ensures.chains h;
+      removes = λ h. let t = c.take_at.ensures.taken h in (t.stood, means_taken c.args.self.now.lent c.take_at.new.self c.args.place c.take_at.result t);
+      sound = λ h. sound_taken g.K.Key.identity g.K.HashKey.hashed g.met.K.Key.whole c.args.self.now.lent (ready_list c.args.self.now) c.take_at.new.self c.args.place c.take_at.result (c.take_at.ensures.taken h) c.take_at.ensures.chains h;
       kept = λ e. absurd (true≢false e);
-      told = λ h ds w. let t = c.take-at.ensures.taken h in
-          told_out ds c.args.self.now.lent c.take-at.new.self c.args.place c.take-at.ensures.ready w t.stood.0 t.order_left t.levels_left t.height_stays;
+      told = λ h ds w. let t = c.take_at.ensures.taken h in
+          told_out ds c.args.self.now.lent c.take_at.new.self c.args.place c.take_at.ensures.ready w t.stood.0 t.order_left t.levels_left t.height_stays;
     }
