@@ -14,11 +14,11 @@ pub loop-i-preserved : goal.loop-i-preserved
 loop-i-preserved c =
     let h = c.loop-i.invariant.0 in
     let bytes = c.bytes-report.ensures ∙ ap laid c.report.ensures in (
-      c.carry-out-reply.ensures.right h,
-      underway_more _ _ c.loop-i.i _ _ _ _ _ _ _ _ c.carry-out-reply.result c.loop-i.invariant.1
-          (subst (λ (b : List ℕ). Reads b c.read-command.result) c.command-at.ensures c.read-command.ensures)
-          (c.carry-out-reply.ensures.served h)
-          _ (c.put-report.ensures ∙ ap (λ (b : List ℕ). paste c.loop-i.out (16 * c.loop-i.i) b 16) bytes),
+      c.carry_out-reply.ensures.right h,
+      underway_more _ _ c.loop-i.i _ _ _ _ _ _ _ _ c.carry_out-reply.result c.loop-i.invariant.1
+          (subst (λ (b : List ℕ). Reads b c.read-command.result) c.command_at.ensures c.read-command.ensures)
+          (c.carry_out-reply.ensures.served h)
+          _ (c.put_report.ensures ∙ ap (λ (b : List ℕ). paste c.loop-i.out (16 * c.loop-i.i) b 16) bytes),
     )
 
 pub returns : goal.returns

@@ -8,5 +8,5 @@ use Rattle.line.proofs.reader.parse.Goals as goal
 
 pub returns : goal.returns
 returns c =
-    subst (λ (r : Result Command LineFault). Reads c.args.line.now r) (sym c.ok-or.ensures.value)
-    (read_line c.args.line.now (omega (arith, ltb-false)) (c.is-line.ensures.0 c.if-not-is-line.false) _ c.command.ensures)
+    subst (λ (r : Result Command LineFault). Reads c.args.line.now r) (sym c.ok_or.ensures.value)
+    (read_line c.args.line.now (omega (arith, ltb-false)) (c.is_line.ensures.0 c.if-not-is_line.false) _ c.command.ensures)

@@ -7,14 +7,14 @@ use Rattle.line.proofs.field.Reader.capitals.Goals as goal
 less : (c : goal.In-Risen) → length c.args.self.now.left.now ≡ 1 + (length (field c.args.self.now.left.now) + length c.field.new.self.left.now)
 less c = shorter _ _ _ c.field.ensures.state c.field.ensures.left c.in-Risen.field-0 c.in-Risen.is
 
-pub overflow-sub-result : goal.overflow-sub-result
-overflow-sub-result c = omega (arith, less c)
+pub overflow_sub-result : goal.overflow_sub-result
+overflow_sub-result c = omega (arith, less c)
 
-pub slice-bounds-result-count : goal.slice-bounds-result-count
-slice-bounds-result-count c = omega (arith, less c)
+pub slice_bounds-result-count : goal.slice_bounds-result-count
+slice_bounds-result-count c = omega (arith, less c)
 
-pub slice-bounds-result-start : goal.slice-bounds-result-start
-slice-bounds-result-start c = omega (arith, shorter c.args.self.now.left.now c.field.new.self.left.now c.field.new.self.state c.field.ensures.state c.field.ensures.left c.in-Risen.field-0 c.in-Risen.is)
+pub slice_bounds-result-start : goal.slice_bounds-result-start
+slice_bounds-result-start c = omega (arith, shorter c.args.self.now.left.now c.field.new.self.left.now c.field.new.self.state c.field.ensures.state c.field.ensures.left c.in-Risen.field-0 c.in-Risen.is)
 
 pub returns-in-Risen : goal.returns-in-Risen
 returns-in-Risen c = record { value = capitals_are _ _ _ c.field.ensures.state c.field.ensures.left c.in-Risen.field-0 c.in-Risen.is; left = c.field.ensures.left }
