@@ -1,7 +1,7 @@
 -- What a desk's type says has one proof at most, so that its calls can use it: layer by layer, and then for the two piles.
 use Rattle.std.proofs.Common.{◌≡◌, ℕ, List, [], ◌∷◌, Some, None, Option}
 use mathlib.Core.Logic.{∥∥₁_elim}
-use denote.Struct.Props.{props, ≡_prop, three_prop}
+use denote.Struct.Props.{props, ≡_prop}
 use Rattle.order.specs.Keys.{number_hash, tag_hash}
 use Rattle.order.specs.Order.{Meaning}
 use Rattle.order.specs.contracts.keys.RuleNumber.{the_row as number-row}
@@ -28,15 +28,15 @@ module _ {A S : Type 0} (g : Ghosts S A) (below : (s : S) → IsProp (g.sound s)
   lent_prop s = below s.set.now
 
   limited_prop : (s : Limit S) → IsProp ((limited g).sound s)
-  limited_prop s = three_prop (below s.below) (hlevel props) (hlevel props)
+  limited_prop s = let b = below s.below in hlevel (props, b)
 
   module _ (same : (x y : A) → IsProp (x ≡ y)) where
     recalls_prop : (v : Meaning A) (o : Option (A × ℕ)) → IsProp (Recalls v o)
-    recalls_prop v (Some (x, i)) = search (props, same)
+    recalls_prop v (Some (x, i)) = hlevel (props, same)
     recalls_prop v None = hlevel props
 
     recalled_prop : (s : LastPlace A S) → IsProp ((recalled g).sound s)
-    recalled_prop s = let b = below s.below in let r = recalls_prop (g.meaning s.below) s.latest in search (props, b, r)
+    recalled_prop s = let b = below s.below in let r = recalls_prop (g.meaning s.below) s.latest in hlevel (props, b, r)
 
 rules_prop : (s : Rules) → IsProp (rules.sound s)
 rules_prop = recalled_prop (lent numbers) (lent_prop numbers (listed_prop (λ k. k.value ∷ []) number_hash)) (λ x y. ≡_prop number-row.coded x y)
@@ -54,7 +54,7 @@ prepared_prop p =
     let a = rules_prop p.panel.book.set in
     let b = yard_prop p.panel.yard in
     let n = numbered_prop in
-    search (props, a, b, n)
+    hlevel (props, a, b, n)
 
 pub told : (p : Console Rules Yard) → ∥ Prepared p ∥₁ → Prepared p
 told p t = ∥∥₁_elim t (prepared_prop p) (λ h. h)

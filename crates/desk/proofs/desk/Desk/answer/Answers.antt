@@ -2,8 +2,8 @@ use Rattle.desk.proofs.Bounds.{bounded}
 use Rattle.desk.proofs.Told.{told}
 use Rattle.desk.proofs.desk.Desk.answer.Goals as goal
 
-pub invariant-of-self : goal.invariant-of-self
-invariant-of-self c = (∣ c.answer.ensures.ready (told c.args.self.now.console c.args.self.now.prepared) ∣₁, tt)
+pub invariant_of-self : goal.invariant_of-self
+invariant_of-self c = record { prepared = ∣ c.answer.ensures.ready (told c.args.self.now.console c.args.self.now.prepared) ∣₁ }
 
 pub returns : goal.returns
 returns c =

@@ -1,4 +1,4 @@
 use Rattle.desk.proofs.desk.Desk.new.Goals as goal
 
-pub invariant-of-result : goal.invariant-of-result
-invariant-of-result c = (∣ c.new.ensures.ready c.rules-pile.ensures.sound c.yard-pile.ensures.sound ∣₁, tt)
+pub invariant_of-result : goal.invariant_of-result
+invariant_of-result c = record { prepared = ∣ c.new.ensures.ready c.rules_pile.ensures.sound c.yard_pile.ensures.sound ∣₁ }
