@@ -12,8 +12,7 @@ pub mod reply;
 pub mod run;
 
 // Carries out the commands on a new list, and writes their reports at the front of `out`; answers how many bytes they are.
-#[unsafe(no_mangle)]
-pub extern "C" fn order_host_run(commands: &[u8], out: &mut [u8]) -> usize
+pub fn order_host_run(commands: &[u8], out: &mut [u8]) -> usize
     ensures length { result ≡ 16 * report_count (length commands.now) (length out.old) }
     ensures answers { Answers commands.now out.old result out.new }
 {

@@ -30,8 +30,7 @@ fn over_plain_row(work: Work, keys: u16, turns: u32) -> u32 {
 }
 
 // Does `turns` turns of a kind of work on a set of so many keys: a row list, or a plain row where `plain` is not 0.
-#[unsafe(no_mangle)]
-pub extern "C" fn order_speed(plain: u32, work: u32, keys: u16, turns: u32) -> u32 {
+pub fn order_speed(plain: u32, work: u32, keys: u16, turns: u32) -> u32 {
     let work = Work::of(work);
     if plain == 0 {
         over_row_list(work, keys, turns)
