@@ -1,5 +1,5 @@
 -- How long a printed answer is: never more than 1,024 bytes, its newline counted.
-use Rattle.std.proofs.Common.{◌≡◌, ℕ, ◌<◌, ◌≤◌, ◌⊎◌, List, length, IfOk, Ok, Err, Result, sym, subst, inl, inr, arith}
+use Rattle.std.proofs.Common.{ℕ, ◌≤◌, List, length, IfOk, Result, sym, subst, inl, inr, arith}
 use Rattle.std.proofs.lemmas.List.{length_push}
 use Rattle.std.proofs.lemmas.Bool.{cases_lt}
 use Rattle.line.specs.Consoles.{Answered, Tight}

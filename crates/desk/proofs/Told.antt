@@ -6,8 +6,6 @@ use Rattle.order.specs.Keys.{number_hash, tag_hash}
 use Rattle.order.specs.Order.{Meaning}
 use Rattle.order.specs.contracts.keys.RuleNumber.{the_row as number-row}
 use Rattle.order.specs.contracts.keys.TrainTag.{the_row as tag-row}
-use Rattle.order.specs.declared.keys.RuleNumber.{RuleNumber}
-use Rattle.order.specs.declared.keys.TrainTag.{TrainTag}
 use Rattle.order.specs.declared.set.OrderedSet.{Ghosts}
 use Rattle.layers.specs.Last.{Recalls}
 use Rattle.layers.specs.declared.last_place.LastPlace.{LastPlace}

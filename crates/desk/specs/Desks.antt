@@ -3,7 +3,7 @@
 --     rules, yard        those of the two piles
 --     Prepared p         both piles of the console p are sound, and only numbers up to 255 have a rule
 --     new_desk m n       the stand of a new desk whose row lists have m and n rows
-use Rattle.std.specs.Prelude.{ℕ, min, max, [], ◌∷◌}
+use Rattle.std.specs.Prelude.{ℕ, min, [], ◌∷◌}
 use Rattle.order.specs.Keys.{number_hash, tag_hash}
 use Rattle.order.specs.Order.{vacant}
 use Rattle.order.specs.declared.keys.RuleNumber.{RuleNumber}

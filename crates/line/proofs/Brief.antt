@@ -1,5 +1,5 @@
 -- What is printed has room with its newline in 1,024 bytes.
-use Rattle.std.proofs.Common.{◌≡◌, ℕ, ◌*◌, ◌^◌, ◌<◌, ◌≤◌, min, false, List, [], ◌∷◌, map, length, take, is_some, None, Err, decimal, Option, Result, sym, ap, ◌∙◌, subst, ⊎_elim, arith, length-append}
+use Rattle.std.proofs.Common.{◌≡◌, ℕ, ◌*◌, ◌^◌, ◌<◌, ◌≤◌, min, false, List, [], ◌∷◌, map, length, take, is_some, Err, decimal, Option, Result, sym, ap, ◌∙◌, subst, ⊎_elim, arith, length-append}
 use lib.Seq.{take-append-le, take-length}
 use Rattle.std.proofs.lemmas.Fmt.{length-decimal-le}
 use Rattle.std.proofs.lemmas.Bool.{cases_lt, cond_both}

@@ -3,7 +3,7 @@ use Rattle.std.proofs.Common.{◌≡◌, ℕ, true, false, eqb, List, [], ◌∷
 use Rattle.std.proofs.lemmas.Fmt.{decimal_digit}
 use Rattle.std.proofs.lemmas.Bool.{cases_Bool, cond_both}
 use Rattle.line.specs.Grammar.{Capitals as Rises, Mark, Short}
-use Rattle.line.specs.Lines.{a_capitals, a_mark, a_number, capitals_of, end, ended, field, mark_of, next, number_of}
+use Rattle.line.specs.Lines.{a_capitals, a_mark, a_number, capitals_of, ended, field, mark_of, next, number_of}
 use Rattle.line.specs.States.{classed, walked}
 use Rattle.line.specs.Words.{word, fields}
 use Rattle.line.specs.declared.field.State.{State}

@@ -13,7 +13,7 @@ use Rattle.index.proofs.Cut.{shuffled}
 use Rattle.skip_list.specs.declared.lent.Lent.{Lent}
 use Rattle.skip_list.specs.Lent.{lower, picked, raised, keys_of, size, used, kept, Ready, Enters, Chained}
 use Rattle.skip_list.proofs.Picks.{lower_inserted, lower_removed, picked_inserted, picked_removed, not_in, tally_inserted, tally_removed}
-use Rattle.skip_list.proofs.Readies.{rows_below, row_low}
+use Rattle.skip_list.proofs.Readies.{rows_below}
 
 high_inserted : (ls os : List ℕ) (i r : ℕ) → high ls (insert os i r) ≡ insert (high ls os) i (get_or ls r 0)
 high_inserted ls os zero r = refl

@@ -1,4 +1,4 @@
-use Rattle.std.proofs.Common.{◌≡◌, sym, ◌∙◌, arith}
+use Rattle.std.proofs.Common.{sym, ◌∙◌, arith}
 use Rattle.order.proofs.Places.{at_front, front_at}
 use Rattle.std.proofs.lemmas.List.{get_or_read}
 use Rattle.order.proofs.plain_row.place_in.Goals as goal

@@ -1,5 +1,5 @@
 -- Each place is passed, and its number written where it has a rule: there is always a cell for it.
-use Rattle.std.proofs.Common.{◌≡◌, ℕ, ◌+◌, true, false, List, ◌++◌, length, take, drop, set, is_some, sym, refl, ap, ◌∙◌, subst, arith}
+use Rattle.std.proofs.Common.{◌≡◌, ℕ, ◌+◌, true, false, List, ◌++◌, length, take, drop, is_some, sym, refl, ap, ◌∙◌, subst, arith}
 use Rattle.std.proofs.lemmas.List.{length-set, take_all}
 use Rattle.order.specs.Order.{At, Meaning}
 use Rattle.order.specs.declared.keys.RuleNumber.{RuleNumber}

@@ -1,4 +1,4 @@
-use Rattle.std.proofs.Common.{◌<◌, length, arith, rules}
+use Rattle.std.proofs.Common.{arith, rules}
 use Rattle.layers.proofs.Limits.{remove_at_capped}
 use Rattle.layers.specs.Limit.{Within}
 use Rattle.layers.proofs.limit.LimitOrderedSet.remove_index.Goals as goal

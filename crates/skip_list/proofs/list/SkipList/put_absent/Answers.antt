@@ -3,7 +3,7 @@ use Rattle.std.proofs.Common.{◌≡◌, length, refl, ap, ◌∙◌, arith}
 use mathlib.Core.Logic.{∥∥₁_map}
 use Rattle.std.proofs.lemmas.List.{length-set}
 use Rattle.std.proofs.lemmas.Bool.{true≢false}
-use Rattle.skip_list.specs.Lent.{kept, size}
+use Rattle.skip_list.specs.Lent.{size}
 use Rattle.skip_list.proofs.Histories.{told_put}
 use Rattle.skip_list.proofs.Readies.{length_used, length_kept}
 use Rattle.skip_list.proofs.Sounds.{ready_list, entering, none_free, row_free, moved, sound_put}

@@ -3,7 +3,7 @@ use Rattle.std.proofs.Common.{◌≡◌, length, sym, refl, ap, subst}
 use mathlib.Core.Logic.{∥∥₁_map}
 use Rattle.std.proofs.lemmas.Bool.{true≢false}
 use Rattle.order.specs.Order.{RemovesKey}
-use Rattle.skip_list.specs.Lent.{kept, means, size}
+use Rattle.skip_list.specs.Lent.{means, size}
 use Rattle.skip_list.specs.History.{Told, after_key}
 use Rattle.skip_list.proofs.Histories.{told_out}
 use Rattle.skip_list.proofs.Sounds.{ready_list, found_used, found_at, none_at, sound_out}
