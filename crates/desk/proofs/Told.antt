@@ -4,8 +4,8 @@ use mathlib.Core.Logic.{∥∥₁_elim}
 use denote.Struct.Props.{props, ≡_prop}
 use Rattle.order.specs.Keys.{number_hash, tag_hash}
 use Rattle.order.specs.Order.{Meaning}
-use Rattle.order.specs.contracts.keys.RuleNumber.{the_row as number-row}
-use Rattle.order.specs.contracts.keys.TrainTag.{the_row as tag-row}
+use Rattle.order.specs.contracts.keys.RuleNumber.{the_row as number_row}
+use Rattle.order.specs.contracts.keys.TrainTag.{the_row as tag_row}
 use Rattle.order.specs.declared.set.OrderedSet.{Ghosts}
 use Rattle.layers.specs.Last.{Recalls}
 use Rattle.layers.specs.declared.last_place.LastPlace.{LastPlace}
@@ -37,12 +37,12 @@ module _ {A S : Type 0} (g : Ghosts S A) (below : (s : S) → IsProp (g.sound s)
     recalled_prop s = let b = below s.below in let r = recalls_prop (g.meaning s.below) s.latest in hlevel (props, b, r)
 
 rules_prop : (s : Rules) → IsProp (rules.sound s)
-rules_prop = recalled_prop (lent numbers) (lent_prop numbers (listed_prop (λ k. k.value ∷ []) number_hash)) (λ x y. ≡_prop number-row.coded x y)
+rules_prop = recalled_prop (lent numbers) (lent_prop numbers (listed_prop (λ k. k.value ∷ []) number_hash)) (λ x y. ≡_prop number_row.coded x y)
 
 yard_prop : (s : Yard) → IsProp (yard.sound s)
 yard_prop =
     limited_prop (recalled (lent tags))
-    (recalled_prop (lent tags) (lent_prop tags (listed_prop (λ k. k.class ∷ k.number ∷ []) tag_hash)) (λ x y. ≡_prop tag-row.coded x y))
+    (recalled_prop (lent tags) (lent_prop tags (listed_prop (λ k. k.class ∷ k.number ∷ []) tag_hash)) (λ x y. ≡_prop tag_row.coded x y))
 
 numbered_prop : (v : Pages) → IsProp (Numbered v)
 numbered_prop v = hlevel props

@@ -1,6 +1,6 @@
 -- The report of each answer, and its bytes.
 --     report_of r    the fields of the report of r
---     laid f        the sixteen bytes of the fields
+--     laid f         the sixteen bytes of the fields
 use Rattle.std.specs.Prelude.{ℕ, ◌/◌, ◌%◌, List, [], ◌∷◌, Some, None, Ok, Err, Option, Result}
 use Rattle.order.specs.Faults.{set_number}
 use Rattle.order.specs.declared.keys.RuleNumber.{RuleNumber}

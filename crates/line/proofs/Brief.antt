@@ -12,7 +12,7 @@ use Rattle.order.specs.declared.keys.TrainTag.{TrainTag}
 use Rattle.book.specs.Books.{Lists}
 use Rattle.book.specs.Faults.{fault_number, fault_word}
 use Rattle.book.specs.Pages.{Pages, ruled}
-use Rattle.book.specs.Pages.{listing as ruledNumbers}
+use Rattle.book.specs.Pages.{listing as ruled_numbers}
 use Rattle.book.specs.declared.fault.BookFault.{BookFault}
 use Rattle.book.specs.declared.fault.BookFault.TheVariants as books
 use Rattle.book.specs.declared.rule.Rule.{Rule}
@@ -80,15 +80,15 @@ ruled_small rules h (k ∷ ks) =
     (λ (l : 256 ≤ k.value). let e = h k.value (omega arith) in rw e (ruled_small rules h ks))
     (cases_lt k.value 256)
 
-pub list_small : (v : Pages) → Numbered v → All (λ n. n < 256) (ruledNumbers v)
+pub list_small : (v : Pages) → Numbered v → All (λ n. n < 256) (ruled_numbers v)
 list_small v h = ruled_small v.rules h v.numbers.order
 
 -- the first cells are the numbers listed
-pub list_text_lem : (cells left : List ℕ) (count : ℕ) (v w : Pages) → Lists cells count left v w → printed (Listed left count) ≡ list_text (ruledNumbers v)
+pub list_text_lem : (cells left : List ℕ) (count : ℕ) (v w : Pages) → Lists cells count left v w → printed (Listed left count) ≡ list_text (ruled_numbers v)
 list_text_lem cells left count v w l =
-    let m : min count 256 ≡ length (ruledNumbers v) = omega (arith, l.counts, l.most) in
-    let t : take (length (ruledNumbers v)) left ≡ ruledNumbers v =
-    ap (take (length (ruledNumbers v))) l.fills ∙ take-append-le (length (ruledNumbers v)) (ruledNumbers v) _ (omega arith) ∙ take-length (ruledNumbers v) in
+    let m : min count 256 ≡ length (ruled_numbers v) = omega (arith, l.counts, l.most) in
+    let t : take (length (ruled_numbers v)) left ≡ ruled_numbers v =
+    ap (take (length (ruled_numbers v))) l.fills ∙ take-append-le (length (ruled_numbers v)) (ruled_numbers v) _ (omega arith) ∙ take-length (ruled_numbers v) in
     ap list_text (ap (λ k. take k left) m ∙ t)
 
 -- a refusal carried up from the book

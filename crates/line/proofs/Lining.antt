@@ -13,7 +13,7 @@ use Rattle.book.specs.declared.rule.Rule.{Rule}
 use Rattle.book.specs.Books.{Adds, Drops, Moves, pages}
 use Rattle.book.specs.Calls.{Carries}
 use Rattle.book.specs.Pages.{Pages, with_rule}
-use Rattle.book.specs.Pages.{listing as ruledNumbers}
+use Rattle.book.specs.Pages.{listing as ruled_numbers}
 use Rattle.book.specs.Yards.{Board, board, frame, opens}
 use Rattle.line.specs.Answers.{list_text, printed, refused_text}
 use Rattle.line.specs.Consoles.{Acted, Done, Numbered, Ready, settled, stand}
@@ -58,7 +58,7 @@ replied : (a : Asked) (draw : ℕ) (text : List ℕ) (ts : List Turn) (v w : Boa
 replied a draw text ts v w rep h =
     ⊎_elim (λ (c : Called a draw text ts v w). lasts v w c.call c.answer c.carries h)
     (λ rest. ⊎_elim (λ (u : Unfit a × (text ≡ refused_text (Book BadRule)) × (ts ≡ []) × (w ≡ v)). lasts_equal v.book w.book (ap (λ (b : Board). b.book) u.3) h)
-    (λ (u : (a ≡ listing) × (text ≡ list_text (ruledNumbers v.book)) × (ts ≡ []) × (w ≡ v)). lasts_equal v.book w.book (ap (λ (b : Board). b.book) u.3) h) rest) rep
+    (λ (u : (a ≡ listing) × (text ≡ list_text (ruled_numbers v.book)) × (ts ≡ []) × (w ≡ v)). lasts_equal v.book w.book (ap (λ (b : Board). b.book) u.3) h) rest) rep
 
 module _ {R Y : Type 0} (r : Ghosts R RuleNumber) (y : Ghosts Y TrainTag) (p q : Console R Y) (line : List ℕ) where
   pub line_done : (a : Asked) (text : List ℕ) → Says line a → Done r y p q a text → Ready r y p → Acted r y p q line text

@@ -4,7 +4,7 @@ use Rattle.order.specs.declared.keys.RuleNumber.{RuleNumber}
 use Rattle.order.specs.declared.keys.TrainTag.{TrainTag}
 use Rattle.order.specs.declared.set.OrderedSet.{Ghosts}
 use Rattle.book.specs.Law.{Follows, GoesOn}
-use Rattle.book.specs.Pages.{listing as ruledNumbers}
+use Rattle.book.specs.Pages.{listing as ruled_numbers}
 use Rattle.book.specs.Yards.{Board}
 use Rattle.book.specs.declared.call.Turn.{Turn}
 use Rattle.book.specs.declared.fault.BookFault.TheVariants.{BadRule}
@@ -31,7 +31,7 @@ replies_on : (a : Asked) (draw : ℕ) (text : List ℕ) (ts : List Turn) (v w : 
 replies_on a draw text ts v w rep =
     ⊎_elim (λ (c : Called a draw text ts v w). subst (λ (l : List Turn). GoesOn l v w) (sym c.turns) (λ start h follows. go_on start h v follows w c.call c.answer c.carries))
     (λ rest. ⊎_elim (λ (u : Unfit a × (text ≡ refused_text (Book BadRule)) × (ts ≡ []) × (w ≡ v)). stays ts v w u.2 u.3)
-    (λ (u : (a ≡ listing) × (text ≡ list_text (ruledNumbers v.book)) × (ts ≡ []) × (w ≡ v)). stays ts v w u.2 u.3) rest) rep
+    (λ (u : (a ≡ listing) × (text ≡ list_text (ruled_numbers v.book)) × (ts ≡ []) × (w ≡ v)). stays ts v w u.2 u.3) rest) rep
 
 pub performs_on : (line text : List ℕ) (ts : List Turn) (u x : Stand) → Performs line text ts u x → GoesOn ts u.board x.board
 performs_on line text ts u x did =

@@ -14,7 +14,7 @@ use Rattle.book.specs.declared.call.Turn.{Turn}
 use Rattle.book.specs.declared.fault.BookFault.TheVariants.{BadRule}
 use Rattle.book.specs.declared.rule.Rule.{Rule}
 use Rattle.book.specs.Calls.{Carries, turn}
-use Rattle.book.specs.Pages.{listing as ruledNumbers}
+use Rattle.book.specs.Pages.{listing as ruled_numbers}
 use Rattle.book.specs.Rules.{Fit, Makes}
 use Rattle.book.specs.Yards.{Board}
 use Rattle.line.specs.Answers.{list_text, placed_text, refused_text, sent_text, stays_text}
@@ -63,7 +63,7 @@ abbrev pub Replies : Asked → ℕ → List ℕ → List Turn → Board → Boar
 Replies a draw text ts v w =
     Called a draw text ts v w
     ⊎ ((Unfit a × (text ≡ refused_text (Book BadRule)) × (ts ≡ []) × (w ≡ v))
-    ⊎ ((a ≡ listing) × (text ≡ list_text (ruledNumbers v.book)) × (ts ≡ []) × (w ≡ v)))
+    ⊎ ((a ≡ listing) × (text ≡ list_text (ruled_numbers v.book)) × (ts ≡ []) × (w ≡ v)))
 
 abbrev pub drawing : Asked → ℕ → ℕ
 drawing (adding n p f l cs r) state = drawn state
