@@ -1,3 +1,4 @@
+pub mod Deeds
 pub mod Faults
 pub mod Keys
 pub mod Order

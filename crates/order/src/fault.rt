@@ -12,7 +12,7 @@ pub enum SetFault {
 }
 
 impl SetFault {
-    // The number under which it is reported.
+    // The number under which it is reported: the rules give each fault its own, so each type has its table.
     pub fn number(&self) -> u8
         ensures { result ≡ set_number self.now }
     {

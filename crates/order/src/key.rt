@@ -1,16 +1,12 @@
 // A key is known by its identity, a list of whole numbers; a hashed key also gives a hash.
 ghost use Rattle.std.specs.Prelude.{◌≡◌, ℕ, true, List};
 
-// A key by its identity: equal identities are equal keys in every part.
-pub trait Key: Copy {
+// A key by its identity.
+pub trait Key: Copy + Eq {
     ghost identity: { Self → List ℕ };
 
-    // Whether two keys have one identity.
-    fn same(&self, other: &Self) -> bool
-        ensures yes { result ≡ true → identity self.now ≡ identity other.now }
-        ensures no { identity self.now ≡ identity other.now → result ≡ true };
-
-    ghost whole: { (a b : Self) → identity a ≡ identity b → a ≡ b };
+    // `==` says yes exactly when two identities are equal, and then the keys are equal in every part
+    ghost same: { (a b : Self) → (Self.eq a b ≡ true → a ≡ b) × (identity a ≡ identity b → Self.eq a b ≡ true) };
 }
 
 // A key that also gives a hash, fixed by its identity alone.

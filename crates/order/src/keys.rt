@@ -6,13 +6,13 @@ ghost use Rattle.std.proofs.Common.{rules};
 use crate::key::{HashKey, Key};
 
 // The number under which a book keeps a rule.
-#[derive(Clone, Copy)]
+#[derive(Clone, Copy, Debug, Default, PartialEq, Eq)]
 pub struct RuleNumber {
     pub value: u16,
 }
 
 // A train by its class letter and its number.
-#[derive(Clone, Copy)]
+#[derive(Clone, Copy, Debug, PartialEq, Eq)]
 pub struct TrainTag {
     pub class: u8,
     pub number: u16,
@@ -29,11 +29,7 @@ fn scatter(word: u32) -> u32
 impl Key for RuleNumber {
     ghost identity = { λ k. k.value ∷ [] };
 
-    ghost whole = { Prim.search rules };
-
-    fn same(&self, other: &RuleNumber) -> bool {
-        self.value == other.value
-    }
+    ghost same = { Prim.search rules };
 }
 
 impl HashKey for RuleNumber {
@@ -47,11 +43,7 @@ impl HashKey for RuleNumber {
 impl Key for TrainTag {
     ghost identity = { λ k. k.class ∷ k.number ∷ [] };
 
-    ghost whole = { Prim.search rules };
-
-    fn same(&self, other: &TrainTag) -> bool {
-        self.class == other.class && self.number == other.number
-    }
+    ghost same = { Prim.search rules };
 }
 
 impl HashKey for TrainTag {

@@ -1,8 +1,9 @@
 // The plain row: keys in sequence in a lent slice, which needs sameness only.
 ghost use Rattle.std.specs.Prelude.{◌≡◌, ℕ, ◌+◌, ◌-◌, ◌<◌, ◌≤◌, min, true, false, length, take};
 ghost use Rattle.std.specs.List.{insert, remove};
+ghost use Rattle.order.specs.Deeds.{order_after};
 ghost use Rattle.order.specs.Order.{At, Distinct, Found, vacant};
-ghost use Rattle.order.specs.Plain.{laid};
+ghost use Rattle.order.specs.Plain.{laid, laid_lawful};
 
 use crate::fault::SetFault;
 use crate::key::Key;
@@ -11,19 +12,19 @@ use crate::set::OrderedSet;
 // The most keys that a plain row takes.
 const MOST: usize = 4096;
 
-// The keys of a row: the first len of what was lent.
+// The keys of a row: the first len of what was lent, since a kit has no heap.
 #[derive(Drop)]
 struct Lent<'a, K> {
     keys: &'a mut [K],
     len: u32,
+    ghost within: { len ≤ length keys.now },
+    ghost small: { len ≤ 4096 },
 }
 
 // An ordered set whose keys stand in sequence in a lent slice.
 #[derive(Drop)]
 pub struct PlainRow<'a, K> {
     lent: Lent<'a, K>,
-    ghost within: { lent.len ≤ length lent.keys.now },
-    ghost small: { lent.len ≤ 4096 },
     ghost apart: { ∥ Distinct (take lent.len lent.keys.now) ∥₁ },
 }
 
@@ -46,49 +47,63 @@ impl<'a, K: Key> Lent<'a, K> {
         self.keys.len().min(MOST) as u32
     }
 
+    // The place of a key.
     fn find(&self, key: K) -> Option<u32>
-        requires { (self.now.len ≤ length self.now.keys.now) × (self.now.len ≤ 4096) }
         ensures { Found (take self.now.len self.now.keys.now) key result }
     {
-        place_in(self.keys, self.len as usize, key)
+        let order = &self.keys[..self.len as usize];
+        let place = order.iter().position(|other| *other == key)?;
+        Some(place as u32)
     }
 
+    // What stands at a place.
     fn at(&self, place: u32) -> K
-        requires { (place < self.now.len) × ((self.now.len ≤ length self.now.keys.now) × (self.now.len ≤ 4096)) }
+        requires { place < self.now.len }
         ensures { At (take self.now.len self.now.keys.now) place result }
     {
-        key_at(self.keys, self.len as usize, place as usize)
+        self.keys[place as usize]
     }
 
+    // Puts the key in at a place.
     fn put(&mut self, place: u32, key: K)
-        requires { (place ≤ self.old.len) × ((self.old.len < length self.old.keys.now) × (self.old.len < 4096)) }
+        requires place { place ≤ self.old.len }
+        requires room { self.old.len < length self.old.keys.now }
+        requires most { self.old.len < 4096 }
         ensures order { take self.new.len self.new.keys.now ≡ insert (take self.old.len self.old.keys.now) place key }
         ensures len { self.new.len ≡ self.old.len + 1 }
         ensures width { length self.new.keys.now ≡ length self.old.keys.now }
     {
-        let len = self.len;
-        put_in(self.keys, len as usize, place as usize, key);
-        self.len = len + 1;
+        let at = place as usize;
+        self.keys.copy_within(at..self.len as usize, at + 1);
+        self.keys[at] = key;
+        self.len += 1;
     }
 
+    // Takes out what stands at a place.
     fn remove(&mut self, place: u32)
-        requires { (place < self.old.len) × ((self.old.len ≤ length self.old.keys.now) × (self.old.len ≤ 4096)) }
+        requires { place < self.old.len }
         ensures order { take self.new.len self.new.keys.now ≡ remove (take self.old.len self.old.keys.now) place }
         ensures len { self.new.len + 1 ≡ self.old.len }
         ensures width { length self.new.keys.now ≡ length self.old.keys.now }
     {
-        let len = self.len;
-        take_out(self.keys, len as usize, place as usize);
-        self.len = len - 1;
+        let at = place as usize;
+        self.keys.copy_within(at + 1..self.len as usize, at);
+        self.len -= 1;
     }
 }
 
 impl<'a, K: Key> OrderedSet<K> for PlainRow<'a, K> {
     ghost meaning = { λ s. laid s.lent.keys.now s.lent.len };
 
-    ghost sound = { λ _. Unit {0} };
+    ghost Body = { Self };
 
     ghost body = { λ s. s };
+
+    ghost told = { λ ds s. order_after ds ≡ take s.lent.len s.lent.keys.now };
+
+    ghost lawful = { λ set. laid_lawful set.lent.keys.now set.lent.len set.lent.within set.lent.small set.apart };
+
+    ghost tells = { λ ds set t. t };
 
     fn length(&self) -> u32 {
         self.lent.len
@@ -150,47 +165,5 @@ impl<'a, K: Key> OrderedSet<K> for PlainRow<'a, K> {
         let key = self.lent.at(place);
         self.lent.remove(place);
         Some(key)
-    }
-}
-
-// The place of the key among the first len keys.
-fn place_in<K: Key>(keys: &[K], len: usize, key: K) -> Option<u32>
-    requires { (len ≤ length keys.now) × (len ≤ 4096) }
-    ensures { Found (take len keys.now) key result }
-{
-    for place in 0..len {
-        if keys[place].same(&key) {
-            return Some(place as u32);
-        }
-    }
-    None
-}
-
-// What stands at a place of the first len keys.
-fn key_at<K: Copy>(keys: &[K], len: usize, place: usize) -> K
-    requires { (len ≤ length keys.now) × (place < len) }
-    ensures { At (take len keys.now) place result }
-{
-    keys[place]
-}
-
-// Puts the key in at a place of the first len keys.
-fn put_in<K: Copy>(keys: &mut [K], len: usize, place: usize, key: K)
-    requires { (len < length keys.old) × (place ≤ len) }
-    ensures { take (len + 1) keys.new ≡ insert (take len keys.old) place key }
-{
-    for at in (place..len).rev() {
-        keys[at + 1] = keys[at];
-    }
-    keys[place] = key;
-}
-
-// Takes out what stands at a place of the first len keys.
-fn take_out<K: Copy>(keys: &mut [K], len: usize, place: usize)
-    requires { (len ≤ length keys.old) × (place < len) }
-    ensures { take (len - 1) keys.new ≡ remove (take len keys.old) place }
-{
-    for at in place + 1..len {
-        keys[at - 1] = keys[at];
     }
 }

@@ -1,23 +1,12 @@
-use Rattle.std.proofs.Common.{sym, ◌∙◌, subst, arith, rules}
+use Rattle.std.proofs.Common.{sym, ◌∙◌, subst, arith}
 use Rattle.std.proofs.lemmas.List.{length-take-le}
 use Rattle.order.specs.Order.{Distinct}
-use Rattle.order.proofs.Places.{told_apart, apart_inserted, none_found}
+use Rattle.order.specs.Plain.{told_apart}
+use Rattle.order.proofs.Places.{apart_inserted, none_found}
 use Rattle.order.proofs.plain_row.PlainRowOrderedSet.insert_index.Goals as goal
 
 pub invariant_of-self : goal.invariant_of-self
 invariant_of-self g c =
     let l = length-take-le c.args.self.now.lent.len c.args.self.now.lent.keys.now (omega arith) in
     let n = none_found _ _ c.find.result c.find.ensures (sym c.is_some.ensures ∙ c.if-is_some.false) in
-    record { within = omega arith; small = omega arith; apart = ∣ subst Distinct (sym c.put.ensures.order) (apart_inserted _ _ _ (omega arith) n (told_apart _ c.args.self.now.apart)) ∣₁ }
-
-pub returns : goal.returns
-returns g c =
-    let l = length-take-le c.args.self.now.lent.len c.args.self.now.lent.keys.now (omega arith) in
-    let d = c.put.ensures.order in
-    let w = c.put.ensures.width in
-    let n = none_found _ _ c.find.result c.find.ensures (sym c.is_some.ensures ∙ c.if-is_some.false) in
-    record {
-      inserts = λ _. ((n, omega arith, omega arith), cc);
-      sound = λ _. tt;
-      kept = search rules;
-    }
+    record { apart = ∣ subst Distinct (sym c.put.ensures.order) (apart_inserted _ _ _ (omega arith) n (told_apart _ c.args.self.now.apart)) ∣₁ }
