@@ -1,5 +1,6 @@
 -- What one level of links says at a split, and what a write leaves of it.
-use Rattle.std.proofs.Common.{◌≡◌, ℕ, ◌+◌, ◌<◌, Bool, true, false, cond, ◌≢◌, ◌⊎◌, List, [], ◌∷◌, length, set, sym, refl, ap, ◌∙◌, subst, inl, inr, add_assoc, arith, length-set, get_or-set_other, get_or-set_same}
+use Rattle.std.proofs.Common.{◌≡◌, ℕ, ◌+◌, ◌<◌, Bool, true, false, cond, ◌≢◌, List, [], ◌∷◌, length, set, sym, refl, ap, ◌∙◌, subst, inl, inr, add_assoc, arith, length-set, get_or-set_other, get_or-set_same}
+use Rattle.std.proofs.lemmas.Bool.{cases_Bool, false≢true}
 use Rattle.links.specs.declared.Link.{Link}
 use Rattle.links.specs.Chain.{plus, nearest, Each, Distinct, Away, Toward, Right, Joins, at, Half, Sound, Fresh}
 
@@ -16,11 +17,7 @@ pub miss : (p : ℕ → Bool) (r : ℕ) (rs : List ℕ) → p r ≡ false → ne
 miss p r rs e = ap (λ v. cond v (record { row = r; count = 1 }) (plus 1 (nearest p rs))) e
 
 pub not_both : {G : Type 0} (v : Bool) → v ≡ false → v ≡ true → G
-not_both v e h = let z : ◌≡◌ {A = Bool} false true = cc in absurd (elim v as (λ _. ⊥) [ true ↦ (let w : ◌≡◌ {A = ℕ} 0 1 = cc in omega arith) | false ↦ (let w : ◌≡◌ {A = ℕ} 0 1 = cc in omega arith) ])
-
-pub known : (v : Bool) → (v ≡ true) ⊎ (v ≡ false)
-known true = inl refl
-known false = inr refl
+not_both v e h = absurd (false≢true (sym e ∙ h))
 
 pub each_map : (P Q : ℕ → Type 0) → ((r : ℕ) → P r → Q r) → (rs : List ℕ) → Each P rs → Each Q rs
 each_map P Q h [] t = tt
@@ -33,7 +30,7 @@ each_both P Q R h (r ∷ rs) t u = (h r t.0 u.0, each_both P Q R h rs t.1 u.1)
 -- what holds of row 0 and of each row holds of the nearest
 pub nearest_each : (p : ℕ → Bool) (P : ℕ → Type 0) (rs : List ℕ) → P 0 → Each P rs → P (nearest p rs).row
 nearest_each p P [] z t = z
-nearest_each p P (r ∷ rs) z t = elim (known (p r)) [
+nearest_each p P (r ∷ rs) z t = elim (cases_Bool (p r)) [
   | inl e ↦ subst (λ k. P k.row) (sym (hit p r rs e)) t.0
   | inr e ↦ subst (λ k. P k.row) (sym (miss p r rs e)) (nearest_each p P rs z t.1)
 ]
@@ -66,7 +63,7 @@ pub toward_turn : (p : ℕ → Bool) (f g : ℕ → Link) (near near' far : List
     Each (λ r. r ≢ 0) far → Distinct far → Turned f g far k (nearest p near') → Toward p f near far → Toward p g near' far
 toward_turn p f g near near' [] k e z d t a =
     joins_one 0 (g 0) (nearest p near') (subst (λ m. Joins (g m.row) m (nearest p near')) (sym e) t.2)
-toward_turn p f g near near' (r ∷ far) k e z d t a = elim (known (p r)) [
+toward_turn p f g near near' (r ∷ far) k e z d t a = elim (cases_Bool (p r)) [
   | inl y ↦
       (let u : Turned f g (r ∷ far) (record { row = r; count = 1 }) (nearest p near') = subst (λ m. Turned f g (r ∷ far) m (nearest p near')) (sym e ∙ hit p r far y) t in (
         (λ _. joins_one r (g r) (nearest p near') u.2),

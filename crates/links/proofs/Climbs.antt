@@ -1,12 +1,13 @@
 -- Climbing from one level to the next: along the links of a level to the nearest row that passes a narrower test.
 use Rattle.std.proofs.Common.{◌≡◌, ℕ, ◌+◌, ◌<◌, ◌≤◌, Bool, true, false, ◌≢◌, ◌⊎◌, List, [], ◌∷◌, length, get_or, sym, refl, ap, ◌∙◌, subst, inl, inr, arith, ltb-true, le-ltb, lt-ltb}
+use Rattle.std.proofs.lemmas.Bool.{cases_Bool}
 use Rattle.links.specs.declared.Link.{Link}
 use Rattle.links.specs.Chain.{plus, nearest, Each, Away, at, Within, reach, Leads}
-use Rattle.links.proofs.Chains.{link_eq, plus_plus, hit, miss, known, not_both, nearest_each, each_map}
+use Rattle.links.proofs.Chains.{link_eq, plus_plus, hit, miss, not_both, nearest_each, each_map}
 
 pub nearest_long : (p : ℕ → Bool) (zs : List ℕ) → (1 ≤ (nearest p zs).count) × ((nearest p zs).count ≤ length zs + 1)
 nearest_long p [] = (omega arith, omega arith)
-nearest_long p (r ∷ zs) = let h = nearest_long p zs in elim (known (p r)) [
+nearest_long p (r ∷ zs) = let h = nearest_long p zs in elim (cases_Bool (p r)) [
   | inl e ↦ subst (λ (k : Link). (1 ≤ k.count) × (k.count ≤ length (r ∷ zs) + 1)) (sym (hit p r zs e)) (omega arith, omega arith)
   | inr e ↦ subst (λ (k : Link). (1 ≤ k.count) × (k.count ≤ length (r ∷ zs) + 1)) (sym (miss p r zs e)) (omega (arith, h.0), omega (arith, h.1))
 ]
@@ -15,7 +16,7 @@ abbrev pub Narrower : (p q : ℕ → Bool) → Type 0
 Narrower p q = (r : ℕ) → q r ≡ true → p r ≡ true
 
 narrow_miss : (p q : ℕ → Bool) → Narrower p q → (r : ℕ) → p r ≡ false → q r ≡ false
-narrow_miss p q n r e = elim (known (q r)) [ inl y ↦ not_both (p r) e (n r y) | inr y ↦ y ]
+narrow_miss p q n r e = elim (cases_Bool (q r)) [ inl y ↦ not_both (p r) e (n r y) | inr y ↦ y ]
 
 -- where one hop of a climb comes to
 abbrev pub Hop : (p q : ℕ → Bool) (f : ℕ → Link) (I : ℕ → Type 0) → List ℕ → Link → Type 0
@@ -24,7 +25,7 @@ Hop p q f I zs k = (ws : List ℕ) × (Away p f ws × Each I ws × (k.count + le
 pub hop : (p q : ℕ → Bool) (f : ℕ → Link) (I : ℕ → Type 0) → Narrower p q → (zs : List ℕ) (k : Link) → nearest p zs ≡ k →
     Away p f zs → Each I zs → k.row ≢ 0 → q k.row ≡ false → Hop p q f I zs k
 hop p q f I n [] k e a i ne low = absurd (ne (sym (ap (λ (x : Link). x.row) e)))
-hop p q f I n (r ∷ zs) k e a i ne low = elim (known (p r)) [
+hop p q f I n (r ∷ zs) k e a i ne low = elim (cases_Bool (p r)) [
   | inl y ↦ subst (λ x. x.row ≢ 0 → q x.row ≡ false → Hop p q f I (r ∷ zs) x) (sym (hit p r zs y) ∙ e)
       (λ _ low'. (zs, (a.1, i.1, omega arith, a.0 y, miss q r zs low'))) ne low
   | inr y ↦ subst (λ x. x.row ≢ 0 → q x.row ≡ false → Hop p q f I (r ∷ zs) x) (sym (miss p r zs y) ∙ e)
@@ -43,7 +44,7 @@ hop p q f I n (r ∷ zs) k e a i ne low = elim (known (p r)) [
 -- a climb ends where there is no row, or one that passes
 pub stay : (p q : ℕ → Bool) → Narrower p q → (zs : List ℕ) → Each (λ r. r ≢ 0) zs → ((nearest p zs).row ≡ 0) ⊎ (q (nearest p zs).row ≡ true) → nearest q zs ≡ nearest p zs
 stay p q n [] z e = refl
-stay p q n (r ∷ zs) z e = elim (known (p r)) [
+stay p q n (r ∷ zs) z e = elim (cases_Bool (p r)) [
   | inl y ↦ hit q r zs (elim (subst (λ x. (x.row ≡ 0) ⊎ (q x.row ≡ true)) (hit p r zs y) e) [ inl w ↦ absurd (z.0 w) | inr w ↦ w ]) ∙ sym (hit p r zs y)
   | inr y ↦ miss q r zs (narrow_miss p q n r y) ∙ ap (λ x. plus 1 x) (stay p q n zs z.1 (subst (λ x. (x.row ≡ 0) ⊎ (q x.row ≡ true)) (miss p r zs y) e)) ∙ sym (miss p r zs y)
 ]

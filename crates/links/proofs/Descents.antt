@@ -1,8 +1,9 @@
 -- Down from the head's top level to a split of the order: on each level, the last row behind the split.
 use Rattle.std.proofs.Common.{◌≡◌, ℕ, ◌+◌, ◌-◌, ◌<◌, ◌≤◌, Bool, ltb, List, [], ◌∷◌, length, sym, refl, ap, ◌∙◌, subst, inl, inr, arith, ltb-false, ltb-true}
+use Rattle.std.proofs.lemmas.Bool.{cases_Bool}
 use Rattle.links.specs.declared.Link.{Link}
 use Rattle.links.specs.Chain.{plus, nearest, Each, Toward, at, Within, reach, Stop, Nears}
-use Rattle.links.proofs.Chains.{link_eq, plus_plus, hit, miss, known}
+use Rattle.links.proofs.Chains.{link_eq, plus_plus, hit, miss}
 use Rattle.links.proofs.Climbs.{nearest_long, Narrower}
 
 plus_to : (k g : Link) (m : ℕ) → k ≡ g → m ≡ 0 → k ≡ plus m g
@@ -11,7 +12,7 @@ plus_to k g m e z = e ∙ link_eq g (plus m g) refl (omega arith)
 -- the link ahead of the last row behind a split leads over the split
 pub spans : (p : ℕ → Bool) (f : ℕ → Link) (near zs : List ℕ) → Toward p f near zs → f (nearest p zs).row ≡ plus ((nearest p zs).count - 1) (nearest p near)
 spans p f near [] t = plus_to (f 0) (nearest p near) 0 t refl
-spans p f near (r ∷ zs) t = elim (known (p r)) [
+spans p f near (r ∷ zs) t = elim (cases_Bool (p r)) [
   | inl y ↦ subst (λ (x : Link). f x.row ≡ plus (x.count - 1) (nearest p near)) (sym (hit p r zs y)) (plus_to (f r) (nearest p near) 0 (t.0 y) refl)
   | inr y ↦ subst (λ (x : Link). f x.row ≡ plus (x.count - 1) (nearest p near)) (sym (miss p r zs y))
       (let b = nearest_long p zs in
@@ -25,7 +26,7 @@ stop_head p (r ∷ xs) k z e = inr (record { row = 0; count = length xs + 1 }, (
 
 pub stop_nearest : (p : ℕ → Bool) (xs : List ℕ) → Stop p xs (nearest p xs)
 stop_nearest p [] = refl
-stop_nearest p (r ∷ xs) = elim (known (p r)) [ inl y ↦ inl (y, hit p r xs y) | inr y ↦ inr (nearest p xs, (stop_nearest p xs, miss p r xs y)) ]
+stop_nearest p (r ∷ xs) = elim (cases_Bool (p r)) [ inl y ↦ inl (y, hit p r xs y) | inr y ↦ inr (nearest p xs, (stop_nearest p xs, miss p r xs y)) ]
 
 pub stop_lower : (p q : ℕ → Bool) → Narrower p q → (xs : List ℕ) (k : Link) → Stop q xs k → Stop p xs k
 stop_lower p q n [] k s = s
@@ -55,12 +56,12 @@ onward p f near (r ∷ xs) k t s = elim s [
       let over = f j.row in
       let b = nearest_long p near in
       let span : j.count ≤ over.count → over ≡ plus (j.count - 1) (nearest p (r ∷ near)) = (λ le. ap (λ (x : Link). f x.row) (o.1.1 le) ∙ spans p f (r ∷ near) xs t.1 ∙ ap (λ (x : Link). plus (x.count - 1) (nearest p (r ∷ near))) (sym (o.1.1 le))) in
-      let hop : over.count < 1 + j.count → Stop p (r ∷ xs) (record { row = over.row; count = (1 + j.count) - over.count }) = (λ lt. elim (known (ltb over.count j.count)) [
+      let hop : over.count < 1 + j.count → Stop p (r ∷ xs) (record { row = over.row; count = (1 + j.count) - over.count }) = (λ lt. elim (cases_Bool (ltb over.count j.count)) [
         | inl y ↦ (let less = ltb-true over.count j.count y in
             inr (record { row = over.row; count = j.count - over.count }, (o.1.0 less, link_eq _ _ refl (omega arith))))
         | inr y ↦ (let ge = ltb-false over.count j.count y in
             let e = span ge in
-            elim (known (p r)) [
+            elim (cases_Bool (p r)) [
               | inl w ↦ inl (w, link_eq _ _ (ap (λ (x : Link). x.row) (e ∙ ap (λ x. plus (j.count - 1) x) (hit p r near w))) (omega arith))
               | inr w ↦ absurd (omega (arith, ap (λ (x : Link). x.count) (e ∙ ap (λ x. plus (j.count - 1) x) (miss p r near w)), b.0, ge, o.0))
             ])
@@ -68,7 +69,7 @@ onward p f near (r ∷ xs) k t s = elim s [
       let stay : 1 + j.count ≤ over.count → plus 1 j ≡ nearest p (r ∷ xs) = (λ le.
       let ge : j.count ≤ over.count = omega arith in
       let e = span ge in
-      elim (known (p r)) [
+      elim (cases_Bool (p r)) [
         | inl w ↦ absurd (omega (arith, ap (λ (x : Link). x.count) (e ∙ ap (λ x. plus (j.count - 1) x) (hit p r near w)), le, ap (λ (x : Link). x.count) (o.1.1 ge), (nearest_long p xs).0))
         | inr w ↦ ap (λ x. plus 1 x) (o.1.1 ge) ∙ sym (miss p r xs w)
       ]) in

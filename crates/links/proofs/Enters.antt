@@ -1,15 +1,20 @@
 -- A change of the order from the top level down: t levels are left to do, where the split has us before it; the others have vs.
 use Rattle.std.proofs.Common.{◌≡◌, ℕ, ◌+◌, ◌-◌, ◌<◌, ◌≤◌, Bool, true, ◌≢◌, List, ◌∷◌, length, get_or, sym, refl, ap, ◌∙◌, subst, inl, inr, eq-or-lt_of_le, arith, lt-ltb}
+use Rattle.std.proofs.lemmas.Bool.{cases_Bool}
 use Rattle.links.specs.declared.Link.{Link}
 use Rattle.links.specs.declared.Row.{Row}
 use Rattle.links.specs.declared.Way.TheVariants.{Ahead}
-use Rattle.links.specs.Cells.{levels, view}
+use Rattle.links.specs.Cell.{levels, view}
 use Rattle.links.specs.Chain.{limit, plus, nearest, Each, reach, at, Sound, Fresh, Stop, Nears}
-use Rattle.links.specs.Ring.{Level, Only, Onto, Sides, Tall, Ring, Place, first}
-use Rattle.links.proofs.Chains.{link_eq, hit, miss, known}
+use Rattle.links.specs.Ring.{Level, Only, Onto, Sides, Tall, Ring, Place, Standing, first}
+use Rattle.links.proofs.Chains.{link_eq, hit, miss}
 use Rattle.links.proofs.Climbs.{nearest_long, narrower}
 use Rattle.links.proofs.Inserts.{level_kept, within, sound_in, sound_out, fresh_out}
 use Rattle.links.proofs.Descents.{spans, stop_head, stop_nearest, stop_lower}
+
+-- a level below t
+pub less : (t : ℕ) → 0 < t → (t - 1) + 1 ≡ t
+less t lt = omega arith
 
 pub record Descent (a₀ a : List Row) (t n : ℕ) (pre : Link) (xs ys us vs : List ℕ) : Type 0 where
   pub levels_same : levels a ≡ levels a₀
@@ -90,15 +95,15 @@ descent_ends a₀ a t after n pre xs ys z p d =
     }
 
 -- the same for a row that leaves
-pub leaves_starts : (a : List Row) (t n count : ℕ) (xs ys : List ℕ) → t ≡ get_or (levels a) 0 0 → Ring a xs (n ∷ ys) × (length xs + length ys + 2 < limit) × (count ≡ length xs + 1) →
+pub leaves_starts : (a : List Row) (t n count : ℕ) (xs ys : List ℕ) → t ≡ get_or (levels a) 0 0 → Standing a xs n ys × (count ≡ length xs + 1) →
     Descent a a t n (record { row = 0; count = count }) xs ys (n ∷ ys) ys
 leaves_starts a t n count xs ys e p = record {
   levels_same = refl;
-  sound = sound_out (length (levels a)) n xs ys p.0.sound;
-  fresh = fresh_out (length (levels a)) n xs ys p.0.sound;
-  few = p.1;
-  stop = stop_head (reach (levels a) t) xs (record { row = 0; count = count }) refl p.2;
-  left = (λ m lt. p.0.right m (omega arith));
+  sound = sound_out (length (levels a)) n xs ys p.0.0.sound;
+  fresh = fresh_out (length (levels a)) n xs ys p.0.0.sound;
+  few = p.0.1;
+  stop = stop_head (reach (levels a) t) xs (record { row = 0; count = count }) refl p.1;
+  left = (λ m lt. p.0.0.right m (omega arith));
   done = (λ m le lt. absurd (omega arith));
 }
 
@@ -140,7 +145,7 @@ pub onto_row : (a : List Row) (l n : ℕ) (pre over : Link) (xs ys : List ℕ) �
 onto_row a l n pre over xs ys h e =
     let p = reach (levels a) l in
     let o = onto_over a l n pre over xs ys h in
-    elim (known (p n)) [
+    elim (cases_Bool (p n)) [
       | inl y ↦ (ap (λ (x : Link). x.row) (o ∙ ap (λ x. plus (pre.count - 1) x) (hit p n ys y)), y)
       | inr y ↦ absurd (omega (arith, onto_some a l n pre over xs ys h, ap (λ (x : Link). x.count) (o ∙ ap (λ x. plus (pre.count - 1) x) (miss p n ys y)), (nearest_long p ys).0))
     ]
@@ -150,7 +155,7 @@ pub onto_past : (a : List Row) (l n : ℕ) (pre over : Link) (xs ys : List ℕ) 
 onto_past a l n pre over xs ys h ne =
     let p = reach (levels a) l in
     let o = onto_over a l n pre over xs ys h in
-    elim (known (p n)) [
+    elim (cases_Bool (p n)) [
       | inl y ↦ absurd (ne (omega (arith, onto_some a l n pre over xs ys h, ap (λ (x : Link). x.count) (o ∙ ap (λ x. plus (pre.count - 1) x) (hit p n ys y)))))
       | inr y ↦ (let q = o ∙ ap (λ x. plus (pre.count - 1) x) (miss p n ys y) in
           link_eq _ _ (ap (λ (x : Link). x.row) q) (omega (arith, onto_some a l n pre over xs ys h, ap (λ (x : Link). x.count) q)))

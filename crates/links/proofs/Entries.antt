@@ -1,8 +1,10 @@
 -- A row that gets its level and comes in at a place.
-use Rattle.std.proofs.Common.{◌≡◌, ℕ, zero, suc, ◌+◌, ◌<◌, ◌≤◌, max, ◌≢◌, List, [], ◌∷◌, ◌++◌, length, get_or, take, drop, set, sym, refl, ap, ◌∙◌, subst, arith, length-append, length-drop, length-set, get_or-set_other, get_or-set_same}
-use Rattle.std.proofs.lemmas.List.{length-take-le}
+use Rattle.std.proofs.Common.{◌≡◌, ℕ, zero, suc, ◌+◌, ◌<◌, ◌≤◌, max, ◌≢◌, List, [], ◌∷◌, length, get_or, take, drop, set, sym, ap, ◌∙◌, subst, arith, length-drop, length-set, get_or-set_other, get_or-set_same}
+use Rattle.std.specs.List.{insert}
+use Rattle.std.proofs.lemmas.List.{drop_all}
+use Rattle.std.proofs.lemmas.List.Edits.{length-insert}
 use Rattle.links.specs.declared.Row.{Row}
-use Rattle.links.specs.Cells.{levels}
+use Rattle.links.specs.Cell.{levels}
 use Rattle.links.specs.Chain.{Each, Half}
 use Rattle.links.specs.Ring.{Ring, Place, Enters, Leveled, Holds, order, turned, first}
 use Rattle.links.proofs.Chains.{each_map}
@@ -17,15 +19,15 @@ each_at P (suc i) (o ∷ os) zs e z = each_at P i os (o ∷ zs) e.1 (e.0, z)
 no_zero : (size : ℕ) (xs ys : List ℕ) → Half size xs ys → Each (λ r. r ≢ 0) xs
 no_zero size xs ys h = each_map (λ r. (0 < r) × (r < size) × Each (λ y. y ≢ r) ys) (λ r. r ≢ 0) (λ r t. omega (arith, t.0)) xs h.0
 
-pub enters_place : (a b d c : List Row) (n i r v h₀ h after : ℕ) → Enters a n i r v → Leveled a b r v → h₀ ≡ get_or (levels a) 0 0 → ((xs ys : List ℕ) → Ring b xs ys → Ring d xs ys) → levels d ≡ levels b →
+pub enters_place : (a b d c : List Row) (n i r v h₀ h after : ℕ) → Holds a n → Enters a n i r v → Leveled a b r v → h₀ ≡ get_or (levels a) 0 0 → ((xs ys : List ℕ) → Ring b xs ys → Ring d xs ys) → levels d ≡ levels b →
     Rounds d h₀ v (record { row = 0; count = n + 1 }) → Leveled d c 0 h → h ≡ max v h₀ →
     after ≡ first (turned (take i (order a n)) []) → Place c after r (turned (take i (order a n)) []) (drop i (order a n))
-enters_place a b d c n i r v h₀ h after e f h₀-is kept same rounds g h-is at-is =
+enters_place a b d c n i r v h₀ h after held e f h₀-is kept same rounds g h-is at-is =
     let os = order a n in
     let xs = turned (take i os) [] in
     let ys = drop i os in
     let apart = each_at (λ x. x ≢ r) i os [] e.absent tt in
-    let ra = ring_at a os i e.holds.0 in
+    let ra = ring_at a os i held.0 in
     let zero-ne : 0 ≢ r = omega (arith, e.row_low) in
     let h-b : get_or (levels b) 0 0 ≡ get_or (levels a) 0 0 = ap (λ x. get_or x 0 0) f.level ∙ get_or-set_other (levels a) r 0 v 0 zero-ne in
     let h-s : get_or (set (levels a) r v) 0 0 ≡ get_or (levels a) 0 0 = get_or-set_other (levels a) r 0 v 0 zero-ne in
@@ -53,40 +55,25 @@ enters_place a b d c n i r v h₀ h after e f h₀-is kept same rounds g h-is at
       few = omega (arith, count, e.room);
     }
 
-pub entered : (a d : List Row) (n m i r v : ℕ) → m ≡ n + 1 → Enters a n i r v → Ring d (turned (take i (order a n)) []) (r ∷ drop i (order a n)) →
-    Holds d m × (order d m ≡ take i (order a n) ++ r ∷ drop i (order a n))
-entered a d n m i r v q e g =
-    let l = length_order a n in
-    holds_from d (take i (order a n) ++ r ∷ drop i (order a n)) m
-    (omega (arith, length-append (take i (order a n)) (r ∷ drop i (order a n)), length-take-le i (order a n) (omega (arith, e.place)), length-drop i (order a n), e.place))
-    (omega (arith, e.room))
-    (ring_whole d (take i (order a n)) (r ∷ drop i (order a n)) g)
-
 pub enters_count : (a : List Row) (n i r v : ℕ) → Enters a n i r v → i + 1 ≡ length (turned (take i (order a n)) []) + 1
 enters_count a n i r v e = omega (arith, length_order a n, length_here (order a n) i (omega (arith, e.place, length_order a n)))
 
--- at the end
-take_all : (os : List ℕ) (n : ℕ) → length os ≡ n → (take n os ≡ os) × (drop n os ≡ [])
-take_all [] zero e = (refl, refl)
-take_all [] (suc n) e = (refl, refl)
-take_all (o ∷ os) zero e = absurd (omega arith)
-take_all (o ∷ os) (suc n) e = let h = take_all os n (omega arith) in (ap (λ x. o ∷ x) h.0, h.1)
+-- what came in at a split, told as one list
+pub entered : (a d : List Row) (n i r : ℕ) → Ring d (turned (take i (order a n)) []) (r ∷ drop i (order a n)) → Ring d [] (insert (order a n) i r)
+entered a d n i r g = ring_whole d (take i (order a n)) (r ∷ drop i (order a n)) g
 
-pub place_last : (a c : List Row) (n r : ℕ) → Place c (first (turned (take n (order a n)) [])) r (turned (take n (order a n)) []) (drop n (order a n)) →
-    Place c (first (turned (take n (order a n)) [])) r (turned (take n (order a n)) []) []
-place_last a c n r p = subst (λ ys. Place c (first (turned (take n (order a n)) [])) r (turned (take n (order a n)) []) ys) (take_all (order a n) n (length_order a n)).1 p
+-- nothing stands after the last
+none_after : (a : List Row) (n i : ℕ) → i ≡ n → drop i (order a n) ≡ []
+none_after a n i e = drop_all i (order a n) (omega (arith, length_order a n))
 
-pub entered_last : (a d : List Row) (n m r v : ℕ) → m ≡ n + 1 → Enters a n n r v → Ring d (turned (take n (order a n)) []) (r ∷ []) → Holds d m × (order d m ≡ order a n ++ r ∷ [])
-entered_last a d n m r v q e g =
-    let w = take_all (order a n) n (length_order a n) in
-    let k = entered a d n m n r v q e (subst (λ ys. Ring d (turned (take n (order a n)) []) (r ∷ ys)) (sym w.1) g) in
-    (k.0, k.1 ∙ ap (λ x. x ++ r ∷ drop n (order a n)) w.0 ∙ ap (λ x. order a n ++ r ∷ x) w.1)
+pub place_last : (a c : List Row) (n i after r : ℕ) (xs : List ℕ) → i ≡ n → Place c after r xs (drop i (order a n)) → Place c after r xs []
+place_last a c n i after r xs e p = subst (λ ys. Place c after r xs ys) (none_after a n i e) p
 
--- the place after the last is the length
-pub enters_last : (a : List Row) (n i r v : ℕ) → i ≡ n → Enters a n i r v → Enters a n n r v
-enters_last a n i r v e p = subst (λ (x : ℕ). Enters a n x r v) e p
+pub entered_last : (a d : List Row) (n i r : ℕ) → i ≡ n → Ring d (turned (take i (order a n)) []) (r ∷ []) → Ring d [] (insert (order a n) i r)
+entered_last a d n i r e g = entered a d n i r (subst (λ ys. Ring d (turned (take i (order a n)) []) (r ∷ ys)) (sym (none_after a n i e)) g)
 
-pub at_last : (a : List Row) (n i r : ℕ) → i ≡ n → order a n ++ r ∷ [] ≡ take i (order a n) ++ r ∷ drop i (order a n)
-at_last a n i r e =
-    let w = take_all (order a n) i (length_order a n ∙ sym e) in
-    sym (ap (λ (x : List ℕ). x ++ r ∷ drop i (order a n)) w.0 ∙ ap (λ (x : List ℕ). order a n ++ r ∷ x) w.1)
+-- one row more
+pub one_more : (a d : List Row) (n i r v : ℕ) → Enters a n i r v → Ring d [] (insert (order a n) i r) → Holds d (n + 1) × (order d (n + 1) ≡ insert (order a n) i r)
+one_more a d n i r v e g =
+    let l = length_order a n in
+    holds_from d (insert (order a n) i r) (n + 1) (omega (arith, length-insert (order a n) i r (omega (arith, e.place)))) (omega (arith, e.room)) g

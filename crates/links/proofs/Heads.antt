@@ -8,7 +8,7 @@ use Rattle.links.specs.declared.Row.{Row}
 use Rattle.links.specs.declared.Way.{Way}
 use Rattle.links.specs.declared.Way.TheVariants.{Ahead, Back}
 use Rattle.links.specs.Chain.{at}
-use Rattle.links.specs.Cells.{none, unlinked, blank, link_of, with_link, flip, view, levels, Wrote}
+use Rattle.links.specs.Cell.{none, unlinked, blank, toward, with_toward, link_of, with_link, flip, view, levels, Wrote}
 
 pub get_or_behind : {A : Type 0} (x : A) (xs : List A) (r : ℕ) (d : A) → r ≢ 0 → get_or xs (r - 1) d ≡ get_or (x ∷ xs) r d
 get_or_behind x xs zero d ne = absurd (ne refl)
@@ -18,29 +18,21 @@ pub set_behind : {A : Type 0} (x : A) (xs : List A) (r : ℕ) (y : A) → r ≢ 
 set_behind x xs zero y ne = absurd (ne refl)
 set_behind x xs (suc r) y ne = ap (λ k. x ∷ set xs k y) (sub-one (suc r))
 
-back_kept : (ps : List LevelLinks) (l : ℕ) (k : Link) → (get_or (set ps l (record { ahead = k; back = (get_or ps l unlinked).back })) l unlinked).back ≡ (get_or ps l unlinked).back
-back_kept [] l k = refl
-back_kept (p ∷ ps) zero k = refl
-back_kept (p ∷ ps) (suc l) k = back_kept ps l k
+toward_back : (w : Way) (k : Link) (p : LevelLinks) → toward (flip w) (with_toward w k p) ≡ toward (flip w) p
+toward_back Ahead k p = refl
+toward_back Back k p = refl
 
-ahead_kept : (ps : List LevelLinks) (l : ℕ) (k : Link) → (get_or (set ps l (record { ahead = (get_or ps l unlinked).ahead; back = k })) l unlinked).ahead ≡ (get_or ps l unlinked).ahead
-ahead_kept [] l k = refl
-ahead_kept (p ∷ ps) zero k = refl
-ahead_kept (p ∷ ps) (suc l) k = ahead_kept ps l k
+pub toward_there : (w : Way) (k : Link) (p : LevelLinks) → toward w (with_toward w k p) ≡ k
+toward_there Ahead k p = refl
+toward_there Back k p = refl
 
-with_back : (w : Way) (l : ℕ) (k : Link) (r : Row) → link_of (flip w) l (with_link w l k r) ≡ link_of (flip w) l r
-with_back Ahead l k r = back_kept r.links.at l k
-with_back Back l k r = ahead_kept r.links.at l k
+kept_back : (w : Way) (ps : List LevelLinks) (l : ℕ) (k : Link) → toward (flip w) (get_or (set ps l (with_toward w k (get_or ps l unlinked))) l unlinked) ≡ toward (flip w) (get_or ps l unlinked)
+kept_back w [] l k = refl
+kept_back w (p ∷ ps) zero k = toward_back w k p
+kept_back w (p ∷ ps) (suc l) k = kept_back w ps l k
 
 with_other : (w v : Way) (l m : ℕ) (k : Link) (r : Row) → m ≢ l → link_of v m (with_link w l k r) ≡ link_of v m r
-with_other Ahead Ahead l m k r ne = ap (λ (p : LevelLinks). p.ahead) (get_or-set_other r.links.at l m _ unlinked ne)
-with_other Ahead Back l m k r ne = ap (λ (p : LevelLinks). p.back) (get_or-set_other r.links.at l m _ unlinked ne)
-with_other Back Ahead l m k r ne = ap (λ (p : LevelLinks). p.ahead) (get_or-set_other r.links.at l m _ unlinked ne)
-with_other Back Back l m k r ne = ap (λ (p : LevelLinks). p.back) (get_or-set_other r.links.at l m _ unlinked ne)
-
-with_level_lem : (w : Way) (l : ℕ) (k : Link) (r : Row) → (with_link w l k r).level ≡ r.level
-with_level_lem Ahead l k r = refl
-with_level_lem Back l k r = refl
+with_other w v l m k r ne = ap (toward v) (get_or-set_other r.links.at l m _ unlinked ne)
 
 -- a row written with one link changed
 pub wrote : (a : List Row) (r : ℕ) (w : Way) (l : ℕ) (k : Link) (new : Row) → new ≡ with_link w l k (get_or a r blank) → link_of w l new ≡ k →
@@ -48,9 +40,9 @@ pub wrote : (a : List Row) (r : ℕ) (w : Way) (l : ℕ) (k : Link) (new : Row) 
 unfolding view levels
 wrote a r w l k new e there = record {
   same = map-set (link_of w l) a r new ∙ ap (λ x. set (view w l a) r x) there;
-  back = map-set_same (link_of (flip w) l) a r new blank (ap (λ x. link_of (flip w) l x) e ∙ with_back w l k (get_or a r blank));
+  back = map-set_same (link_of (flip w) l) a r new blank (ap (λ x. link_of (flip w) l x) e ∙ kept_back w (get_or a r blank).links.at l k);
   other = (λ v m ne. map-set_same (link_of v m) a r new blank (ap (λ x. link_of v m x) e ∙ with_other w v l m k (get_or a r blank) ne));
-  levels_same = map-set_same (λ (x : Row). x.level) a r new blank (ap (λ (x : Row). x.level) e ∙ with_level_lem w l k (get_or a r blank));
+  levels_same = map-set_same (λ (x : Row). x.level) a r new blank (ap (λ (x : Row). x.level) e);
 }
 
 pub wrote_behind : (h : Row) (rows : List Row) (r : ℕ) (w : Way) (l : ℕ) (k : Link) (new : Row) → r ≢ 0 →

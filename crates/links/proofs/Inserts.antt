@@ -3,7 +3,7 @@ use Rattle.std.proofs.Common.{◌≡◌, ℕ, ◌+◌, ◌<◌, ◌≤◌, ◌�
 use Rattle.links.specs.declared.Link.{Link}
 use Rattle.links.specs.declared.Row.{Row}
 use Rattle.links.specs.declared.Way.TheVariants.{Ahead, Back}
-use Rattle.links.specs.Cells.{levels, view}
+use Rattle.links.specs.Cell.{levels, view}
 use Rattle.links.specs.Chain.{limit, nearest, Each, Toward, Right, reach, at, Sound, Half, Fresh, Within, Leads}
 use Rattle.links.specs.Ring.{Level, Only, Sides, Tall, Ring, Place, first}
 use Rattle.links.proofs.Chains.{miss, each_map, each_both}

@@ -1,14 +1,15 @@
 -- The level of a row that stands nowhere in the order, or of the head, may change.
 use Rattle.std.proofs.Common.{◌≡◌, ℕ, ◌+◌, ◌-◌, ◌<◌, ◌≤◌, Bool, false, cond, ltb, ◌≢◌, List, [], ◌∷◌, length, get_or, set, sym, refl, ap, ◌∙◌, subst, inl, inr, eq-or-lt_of_le, arith, length-set, get_or-set_other, get_or-set_same, ltb-false, ltb-true, le-ltb}
 use lib.Seq.{map-set, map-set_same}
+use Rattle.std.proofs.lemmas.Bool.{cases_Bool}
 use Rattle.links.specs.declared.Link.{Link}
 use Rattle.links.specs.declared.Row.{Row}
 use Rattle.links.specs.declared.Way.{Way}
 use Rattle.links.specs.declared.Way.TheVariants.{Ahead, Back}
-use Rattle.links.specs.Cells.{none, blank, link_of, levels, view}
+use Rattle.links.specs.Cell.{none, blank, link_of, levels, view}
 use Rattle.links.specs.Chain.{plus, nearest, Each, Away, Toward, Right, reach, at, Sound}
 use Rattle.links.specs.Ring.{Level, Only, Pair, Tall, Ring, Leveled}
-use Rattle.links.proofs.Chains.{each_map, link_eq, miss, known, not_both}
+use Rattle.links.proofs.Chains.{each_map, link_eq, miss, not_both}
 use Rattle.links.proofs.Inserts.{level_kept}
 use Rattle.links.proofs.Heads.{get_or_behind, set_behind, levels_head, view_head, length_view}
 
@@ -41,7 +42,7 @@ apart_tall ls n v (r ∷ rs) up e t = (subst (λ x. (0 < x) × (x ≤ 16) × (x 
 
 -- true below one height, and from there to another
 whole : (a : List Row) (h k : ℕ) (xs ys : List ℕ) → ((l : ℕ) → l < h → Level a l xs ys) → ((l : ℕ) → h ≤ l → l < k → Level a l xs ys) → (l : ℕ) → l < k → Level a l xs ys
-whole a h k xs ys f g l lt = elim (known (ltb l h)) [ inl y ↦ f l (ltb-true l h y) | inr y ↦ g l (ltb-false l h y) lt ]
+whole a h k xs ys f g l lt = elim (cases_Bool (ltb l h)) [ inl y ↦ f l (ltb-true l h y) | inr y ↦ g l (ltb-false l h y) lt ]
 
 -- above every row, the head's two links lead round
 pub alone : (p : ℕ → Bool) (rs : List ℕ) → Each (λ r. p r ≡ false) rs → nearest p rs ≡ record { row = 0; count = length rs + 1 }

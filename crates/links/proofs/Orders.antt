@@ -1,14 +1,16 @@
 -- The order is what the links of level 0 lead through.
-use Rattle.std.proofs.Common.{◌≡◌, ℕ, zero, suc, ◌+◌, ◌<◌, ◌≤◌, List, [], ◌∷◌, ◌++◌, length, get_or, take, drop, sym, refl, ap, ◌∙◌, subst, arith, length-append, length-drop, take-append-drop, drop-cons, lt-ltb}
+use Rattle.std.proofs.Common.{◌≡◌, ℕ, zero, suc, ◌+◌, ◌-◌, ◌<◌, ◌≤◌, List, [], ◌∷◌, ◌++◌, length, get_or, take, drop, sym, refl, ap, ◌∙◌, subst, arith, length-drop, take-append-drop, drop-cons, lt-ltb}
 use mathlib.Core.HLevel.{×_prop}
 use mathlib.Core.Logic.{∥∥₁_elim}
 use native.Mathlib.Bridge.{le_prop}
 use Rattle.links.proofs.Props.{ring_prop}
+use Rattle.std.specs.List.{remove}
 use Rattle.std.proofs.lemmas.List.{length-take-le}
+use Rattle.std.proofs.lemmas.List.Edits.{length-remove}
 use Rattle.links.specs.declared.Link.{Link}
 use Rattle.links.specs.declared.Row.{Row}
 use Rattle.links.specs.declared.Way.TheVariants.{Ahead}
-use Rattle.links.specs.Cells.{levels, view}
+use Rattle.links.specs.Cell.{levels, view}
 use Rattle.links.specs.Chain.{limit, reach, at}
 use Rattle.links.specs.Ring.{Level, Ring, first, walk, order, turned, Holds}
 use Rattle.links.proofs.Chains.{hit}
@@ -68,9 +70,17 @@ length_here os i le = length_turned (take i os) [] ∙ omega (arith, length-take
 pub holds_prop : (a : List Row) (n : ℕ) → IsProp (Holds a n)
 holds_prop a n = ×_prop (ring_prop a [] (order a n)) le_prop
 
+-- no row
+pub order_none : (a : List Row) → order a 0 ≡ []
+unfolding order
+order_none a = refl
+
 -- rows that hold a list in order hold their order
 pub holds_from : (a : List Row) (os : List ℕ) (n : ℕ) → n ≡ length os → n + 2 < limit → Ring a [] os → Holds a n × (order a n ≡ os)
 holds_from a os n e few g = let o = order_is a os n e g in ((subst (λ x. Ring a [] x) (sym o) g, few), o)
+
+pub holds_none : (a : List Row) → Ring a [] [] → Holds a 0
+holds_none a g = (holds_from a [] 0 refl (omega arith) g).0
 
 -- the row at place i, as the lookups and removal ask for it
 pub here_at : (a : List Row) (n i : ℕ) → i < n → Holds a n →
@@ -84,13 +94,12 @@ here_at a n i lt h =
 pub here_row : (a : List Row) (n i r : ℕ) → i < n → Holds a n → r ≡ get_or (order a n) i 0 → Ring a (turned (take i (order a n)) []) (r ∷ drop (suc i) (order a n))
 here_row a n i r lt h e = subst (λ x. Ring a (turned (take i (order a n)) []) (x ∷ drop (suc i) (order a n))) (sym e) (here_at a n i lt h).0
 
-pub removed : (a b : List Row) (n m i : ℕ) → i < n → m + 1 ≡ n → Holds a n → Ring b (turned (take i (order a n)) []) (drop (suc i) (order a n)) →
-    Holds b m × (order b m ≡ take i (order a n) ++ drop (suc i) (order a n))
-removed a b n m i lt e h g =
+-- one row less
+pub one_less : (a b : List Row) (n i : ℕ) → i < n → Holds a n → Ring b (turned (take i (order a n)) []) (drop (suc i) (order a n)) →
+    Holds b (n - 1) × (order b (n - 1) ≡ remove (order a n) i)
+one_less a b n i lt h g =
     let l = length_order a n in
-    holds_from b (take i (order a n) ++ drop (suc i) (order a n)) m
-    (omega (arith, length-append (take i (order a n)) (drop (suc i) (order a n)), length-take-le i (order a n) (omega arith), length-drop (suc i) (order a n)))
-    (omega (arith, h.1))
+    holds_from b (remove (order a n) i) (n - 1) (omega (arith, length-remove (order a n) i (omega arith))) (omega (arith, h.1))
     (ring_whole b (take i (order a n)) (drop (suc i) (order a n)) g)
 
 -- what the ghost field holds

@@ -6,7 +6,7 @@ use native.Mathlib.Bridge.{le_prop}
 use Rattle.links.specs.declared.Link.{Link}
 use Rattle.links.specs.declared.Row.{Row}
 use Rattle.links.specs.declared.Way.TheVariants.{Ahead, Back}
-use Rattle.links.specs.Cells.{levels, view}
+use Rattle.links.specs.Cell.{levels, view}
 use Rattle.links.specs.Chain.{nearest, Each, Distinct, Away, Toward, Right, reach, at, Half}
 use Rattle.links.specs.Ring.{Level, Tall, Ring}
 

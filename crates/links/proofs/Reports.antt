@@ -1,13 +1,14 @@
 -- What the links of a level lead through.
 use Rattle.std.proofs.Common.{◌≡◌, ℕ, suc, ◌+◌, ◌<◌, ◌≤◌, Bool, true, false, cond, List, [], ◌∷◌, ◌++◌, length, get_or, take, drop, sym, refl, ap, ◌∙◌, subst, inl, inr, append-nil, arith, lt-ltb}
+use Rattle.std.proofs.lemmas.Bool.{cases_Bool}
 use Rattle.links.specs.declared.Link.{Link}
 use Rattle.links.specs.declared.Row.{Row}
 use Rattle.links.specs.declared.Way.TheVariants.{Ahead, Back}
-use Rattle.links.specs.Cells.{levels, view}
+use Rattle.links.specs.Cell.{levels, view}
 use Rattle.links.specs.Chain.{nearest, Away, reach, at}
 use Rattle.links.specs.Ring.{Level, Ring, Holds, order, turned, walk}
 use Rattle.links.specs.Report.{those, total, LevelsLead}
-use Rattle.links.proofs.Chains.{hit, miss, known}
+use Rattle.links.proofs.Chains.{hit, miss}
 use Rattle.links.proofs.Orders.{split, length_order, length_turned, here_row}
 
 pub those_hit : (p : ℕ → Bool) (r : ℕ) (rs : List ℕ) → p r ≡ true → those p (r ∷ rs) ≡ r ∷ those p rs
@@ -18,7 +19,7 @@ those_miss p r rs e = ap (λ v. cond v (r ∷ those p rs) (those p rs)) e
 
 visits : (p : ℕ → Bool) (f : ℕ → Link) (us : List ℕ) (r : ℕ) → (f r).row ≡ (nearest p us).row → Away p f us → walk f (suc (length (those p us))) r ≡ those p us ++ 0 ∷ []
 visits p f [] r e a = ap (λ x. x ∷ []) e
-visits p f (u ∷ us) r e a = elim (known (p u)) [
+visits p f (u ∷ us) r e a = elim (cases_Bool (p u)) [
   | inl y ↦ subst (λ x. walk f (suc (length x)) r ≡ x ++ 0 ∷ []) (sym (those_hit p u us y))
       (let to : (f r).row ≡ u = e ∙ ap (λ (k : Link). k.row) (hit p u us y) in
       ap (λ x. x ∷ walk f (suc (length (those p us))) x) to ∙ ap (λ xs. u ∷ xs) (visits p f us u (ap (λ (k : Link). k.row) (a.0 y)) a.1))
@@ -28,7 +29,7 @@ visits p f (u ∷ us) r e a = elim (known (p u)) [
 -- those of a list turned round
 those_turned : (p : ℕ → Bool) (us zs : List ℕ) → those p (turned us zs) ≡ turned (those p us) (those p zs)
 those_turned p [] zs = refl
-those_turned p (u ∷ us) zs = elim (known (p u)) [
+those_turned p (u ∷ us) zs = elim (cases_Bool (p u)) [
   | inl y ↦ those_turned p us (u ∷ zs) ∙ ap (λ x. turned (those p us) x) (those_hit p u zs y) ∙ sym (ap (λ x. turned x (those p zs)) (those_hit p u us y))
   | inr y ↦ those_turned p us (u ∷ zs) ∙ ap (λ x. turned (those p us) x) (those_miss p u zs y) ∙ sym (ap (λ x. turned x (those p zs)) (those_miss p u us y))
 ]
@@ -36,7 +37,7 @@ those_turned p (u ∷ us) zs = elim (known (p u)) [
 totals : (p : ℕ → Bool) (f : ℕ → Link) (us : List ℕ) (r m : ℕ) → (f r).row ≡ (nearest p us).row → (f r).count ≡ m + (nearest p us).count → Away p f us →
     total f (length (those p us)) r ≡ m + (length us + 1)
 totals p f [] r m e c a = c
-totals p f (u ∷ us) r m e c a = elim (known (p u)) [
+totals p f (u ∷ us) r m e c a = elim (cases_Bool (p u)) [
   | inl y ↦ subst (λ x. total f (length x) r ≡ m + (length (u ∷ us) + 1)) (sym (those_hit p u us y))
       (let to : (f r).row ≡ u = e ∙ ap (λ (k : Link). k.row) (hit p u us y) in
       let one = ap (λ (k : Link). k.count) (hit p u us y) in

@@ -1,12 +1,13 @@
 -- The split may stand anywhere in the order, and a link leads from one split to another.
 use Rattle.std.proofs.Common.{◌≡◌, ℕ, ◌+◌, ◌-◌, ◌<◌, ◌≤◌, Bool, ◌≢◌, ◌⊎◌, List, [], ◌∷◌, length, get_or, sym, refl, ◌∙◌, subst, inl, inr, arith, lt-ltb}
+use Rattle.std.proofs.lemmas.Bool.{cases_Bool}
 use Rattle.links.specs.declared.Link.{Link}
 use Rattle.links.specs.declared.Row.{Row}
 use Rattle.links.specs.declared.Way.TheVariants.{Back}
-use Rattle.links.specs.Cells.{levels, view}
+use Rattle.links.specs.Cell.{levels, view}
 use Rattle.links.specs.Chain.{plus, nearest, Each, reach, at, Sound}
 use Rattle.links.specs.Ring.{Level, Tall, Ring}
-use Rattle.links.proofs.Chains.{hit, miss, known, each_map, each_both}
+use Rattle.links.proofs.Chains.{hit, miss, each_map, each_both}
 use Rattle.links.proofs.Climbs.{nearest_long}
 
 sound_back : (size r : ℕ) (xs ys : List ℕ) → Sound size xs (r ∷ ys) → Sound size (r ∷ xs) ys
@@ -65,7 +66,7 @@ further_back a r xs k b = elim b [
 
 pub found_back : (a : List Row) (p : ℕ → Bool) (xs ys : List ℕ) → Ring a xs ys → BackTo a xs (nearest p xs)
 found_back a p [] ys g = inl (refl, refl)
-found_back a p (r ∷ xs) ys g = elim (known (p r)) [
+found_back a p (r ∷ xs) ys g = elim (cases_Bool (p r)) [
   | inl e ↦ subst (λ k. BackTo a (r ∷ xs) k) (sym (hit p r xs e)) (inr (xs, (ys, (ring_on a r xs ys g, omega arith))))
   | inr e ↦ subst (λ k. BackTo a (r ∷ xs) k) (sym (miss p r xs e)) (further_back a r xs (nearest p xs) (found_back a p xs (r ∷ ys) (ring_on a r xs ys g)))
 ]

@@ -1,56 +1,15 @@
--- Rows as cells of links: what one cell holds, and what a write of one cell leaves.
-use Rattle.std.specs.Prelude.{◌≡◌, ℕ, ◌<◌, ◌≢◌, List, [], ◌∷◌, map, slice_index_or, slice_set}
-use Rattle.links.specs.declared.Link.{Link}
-use Rattle.links.specs.declared.LevelLinks.{LevelLinks}
-use Rattle.links.specs.declared.Links.{Links}
+-- Rows that hold an order: their cells, and the rows of the order.
+use Rattle.std.specs.Prelude.{ℕ, List}
 use Rattle.links.specs.declared.Row.{Row}
 use Rattle.links.specs.declared.Rows.{Rows}
-use Rattle.links.specs.declared.Way.{Way}
-use Rattle.links.specs.declared.Way.TheVariants.{Ahead, Back}
+use Rattle.links.specs.Cell.{laid}
+use Rattle.links.specs.Ring.{order}
+pub use Rattle.links.specs.Cell.{levels, view}
 
-abbrev pub none : Link
-none = record { row = 0; count = 0 }
-
-abbrev pub unlinked : LevelLinks
-unlinked = record { ahead = none; back = none }
-
-abbrev pub nolinks : Links
-nolinks = record { at = [] }
-
-abbrev pub blank : Row
-blank = record { level = 0; links = nolinks }
-
-abbrev pub link_of : Way → ℕ → Row → Link
-link_of Ahead l r = (slice_index_or r.links.at l unlinked).ahead
-link_of Back l r = (slice_index_or r.links.at l unlinked).back
-
-abbrev pub with_link : Way → ℕ → Link → Row → Row
-with_link Ahead l k r = record { level = r.level; links = record { at = slice_set r.links.at l (record { ahead = k; back = (slice_index_or r.links.at l unlinked).back }) } }
-with_link Back l k r = record { level = r.level; links = record { at = slice_set r.links.at l (record { ahead = (slice_index_or r.links.at l unlinked).ahead; back = k }) } }
-
--- a row of level v that has the link k at every level, both ways
-pub record Throughout (r : Row) (v : ℕ) (k : Link) : Type 0 where
-  pub level_is : r.level ≡ v
-  pub links_are : (w : Way) (l : ℕ) → l < 16 → link_of w l r ≡ k
-
-abbrev pub flip : Way → Way
-flip Ahead = Back
-flip Back = Ahead
-
--- the rows by number: the head is row 0
+-- the rows by number, the head in front
 abbrev pub cells : Rows → List Row
-cells s = s.head ∷ s.rows.now
+cells s = laid s.grid
 
--- the links of one level in one direction, row by row
-unfoldable pub view : Way → ℕ → List Row → List Link
-view w l rows = map (link_of w l) rows
-
-unfoldable pub levels : List Row → List ℕ
-levels rows = map (λ (r : Row). r.level) rows
-
--- b is a but for one link
-pub record Wrote (a b : List Row) (r : ℕ) (w : Way) (l : ℕ) (k : Link) : Type 0 where
-  pub same : view w l b ≡ slice_set (view w l a) r k
-  pub back : view (flip w) l b ≡ view (flip w) l a
-  pub other : (v : Way) (m : ℕ) → m ≢ l → view v m b ≡ view v m a
-  pub levels_same : levels b ≡ levels a
+-- the rows of the order, the first in front
+abbrev pub sequence : Rows → List ℕ
+sequence s = order (cells s) s.len

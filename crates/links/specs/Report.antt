@@ -3,7 +3,7 @@ use Rattle.std.specs.Prelude.{◌≡◌, ℕ, zero, suc, ◌+◌, ◌<◌, Bool,
 use Rattle.links.specs.declared.Link.{Link}
 use Rattle.links.specs.declared.Row.{Row}
 use Rattle.links.specs.declared.Way.TheVariants.{Ahead, Back}
-use Rattle.links.specs.Cells.{levels, view}
+use Rattle.links.specs.Cell.{levels, view}
 use Rattle.links.specs.Chain.{reach, at}
 use Rattle.links.specs.Ring.{Holds, order, turned, walk}
 

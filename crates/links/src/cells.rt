@@ -1,38 +1,15 @@
 // Rows by number: the head is row 0, and row k lies at place k - 1 of the lent slice.
-ghost use Rattle.std.specs.Prelude.{◌≡◌, suc, ◌+◌, ◌<◌, [], length, slice_index};
-ghost use Rattle.links.specs.Cells.{cells, levels, view, Wrote};
-ghost use Rattle.links.specs.Ring.{Leveled, Pair, Ring};
+ghost use Rattle.std.specs.Prelude.{◌≡◌, ◌<◌, length, slice_index};
+ghost use Rattle.links.specs.Cell.{Wrote, laid, levels, view};
+ghost use Rattle.links.specs.Ring.{Leveled, Pair};
 ghost use Rattle.links.specs.Chain.{at};
 
-use crate::{Link, Row, Rows, Way};
+use crate::{Grid, Link, Way};
 
-impl<'a> Rows<'a> {
-    /// No row in the order: at every level the head's links lead round to itself.
-    pub fn new(rows: &'a mut [Row]) -> Rows<'a>
-        ensures ring { Ring (cells result) [] [] }
-        ensures len { result.len ≡ 0 }
-        ensures sized { length (levels (cells result)) ≡ length rows.old + 1 }
-        ensures height { slice_index (levels (cells result)) 0 ≡ 1 }
-    {
-        let head = Row::around();
-        Rows { rows, head, len: 0 }
-    }
-
-    /// Takes every row out of the order.
-    pub fn clear(&mut self)
-        ensures ring { Ring (cells self.new) [] [] }
-        ensures len { self.new.len ≡ 0 }
-        ensures sized { length (levels (cells self.new)) ≡ length (levels (cells self.old)) }
-        ensures height { slice_index (levels (cells self.new)) 0 ≡ 1 }
-    {
-        self.head = Row::around();
-        self.len = 0;
-    }
-
-    /// The level of a row: the head is row 0, and row k lies at place k - 1 of the slice.
-    pub fn level_of(&self, row: u16) -> u8
-        requires { row < length (levels (cells self.now)) }
-        ensures { result ≡ slice_index (levels (cells self.now)) row }
+impl<'a> Grid<'a> {
+    pub(crate) fn level_of(&self, row: u16) -> u8
+        requires { row < length (levels (laid self.now)) }
+        ensures { result ≡ slice_index (levels (laid self.now)) row }
     {
         if row == 0 {
             self.head.level
@@ -42,9 +19,8 @@ impl<'a> Rows<'a> {
     }
 
     pub(crate) fn set_level(&mut self, row: u16, level: u8)
-        requires { row < length (levels (cells self.old)) }
-        ensures leveled { Leveled (cells self.old) (cells self.new) row level }
-        ensures len { self.new.len ≡ self.old.len }
+        requires { row < length (levels (laid self.old)) }
+        ensures { Leveled (laid self.old) (laid self.new) row level }
     {
         if row == 0 {
             self.head.level = level;
@@ -53,9 +29,10 @@ impl<'a> Rows<'a> {
         }
     }
 
-    pub fn link(&self, row: u16, way: Way, level: u8) -> Link
-        requires { (row < length (levels (cells self.now))) × (level < 16) }
-        ensures { result ≡ at (view way level (cells self.now)) row }
+    pub(crate) fn link(&self, row: u16, way: Way, level: u8) -> Link
+        requires row { row < length (levels (laid self.now)) }
+        requires level { level < 16 }
+        ensures { result ≡ at (view way level (laid self.now)) row }
     {
         if row == 0 {
             self.head.link(way, level)
@@ -66,9 +43,9 @@ impl<'a> Rows<'a> {
     }
 
     pub(crate) fn set_link(&mut self, row: u16, way: Way, level: u8, link: Link)
-        requires { (row < length (levels (cells self.old))) × (level < 16) }
-        ensures wrote { Wrote (cells self.old) (cells self.new) row way level link }
-        ensures len { self.new.len ≡ self.old.len }
+        requires row { row < length (levels (laid self.old)) }
+        requires level { level < 16 }
+        ensures { Wrote (laid self.old) (laid self.new) row way level link }
     {
         if row == 0 {
             self.head.set_link(way, level, link);
@@ -79,11 +56,28 @@ impl<'a> Rows<'a> {
 
     /// Writes both links that meet at a gap: that of `pre` ahead and that of `suc` back.
     pub(crate) fn set_both(&mut self, level: u8, pre: u16, ahead: Link, suc: u16, back: Link)
-        requires { (level < 16) × ((pre < length (levels (cells self.old))) × (suc < length (levels (cells self.old)))) }
-        ensures wrote { Pair (cells self.old) (cells self.new) level pre ahead suc back }
-        ensures len { self.new.len ≡ self.old.len }
+        requires level { level < 16 }
+        requires pre { pre < length (levels (laid self.old)) }
+        requires suc { suc < length (levels (laid self.old)) }
+        ensures { Pair (laid self.old) (laid self.new) level pre ahead suc back }
     {
         self.set_link(pre, Way::Ahead, level, ahead);
         self.set_link(suc, Way::Back, level, back);
+    }
+
+    /// Joins two rows at one level: each link names the other row, with the same count.
+    pub(crate) fn join(&mut self, level: u8, pre: u16, suc: u16, count: u16)
+        requires level { level < 16 }
+        requires pre { pre < length (levels (laid self.old)) }
+        requires suc { suc < length (levels (laid self.old)) }
+        ensures { Pair (laid self.old) (laid self.new) level pre (record { row = suc; count = count }) suc (record { row = pre; count = count }) }
+    {
+        self.set_both(
+            level,
+            pre,
+            Link { row: suc, count },
+            suc,
+            Link { row: pre, count },
+        );
     }
 }

@@ -1,17 +1,18 @@
 // How a row comes in, level by level.
-ghost use Rattle.std.specs.Prelude.{◌≡◌, ℕ, suc, ◌+◌, ◌<◌, max, List, [], ◌∷◌, ◌++◌, length, take, drop, slice_index, slice_set};
-ghost use Rattle.links.specs.Cells.{cells, levels};
-ghost use Rattle.links.specs.Ring.{Enters, Holds, Level, Only, Place, Ring, Sides, first, order, turned};
+ghost use Rattle.std.specs.Prelude.{◌≡◌, ℕ, suc, ◌+◌, ◌<◌, List, [], ◌∷◌, length, take, drop};
+ghost use Rattle.std.specs.List.{insert};
+ghost use Rattle.links.specs.Cell.{laid, levels};
+ghost use Rattle.links.specs.Ring.{Enters, Holds, Level, Only, Place, Ring, Sides, first, order, raised, turned};
 
-use crate::{Link, Rows, Way};
+use crate::{Grid, Link, Way};
 
-impl<'a> Rows<'a> {
+impl<'a> Grid<'a> {
     /// Takes the row `new` into one level, between the nearest rows of that level on both sides of its place.
     pub(crate) fn thread(&mut self, level: u8, new: u16, pre: Link, suc: Link)
-        requires { (level < 16) × (((xs : List ℕ) × ((ys : List ℕ) × Sides (cells self.old) level new pre suc xs ys))) }
-        ensures put { (xs ys : List ℕ) → Sides (cells self.old) level new pre suc xs ys → Level (cells self.old) level xs ys → Level (cells self.new) level xs (new ∷ ys) }
-        ensures only { Only (cells self.old) (cells self.new) level }
-        ensures len { self.new.len ≡ self.old.len }
+        requires level { level < 16 }
+        requires sides { (xs : List ℕ) × ((ys : List ℕ) × Sides (laid self.old) level new pre suc xs ys) }
+        ensures put { (xs ys : List ℕ) → Sides (laid self.old) level new pre suc xs ys → Level (laid self.old) level xs ys → Level (laid self.new) level xs (new ∷ ys) }
+        ensures only { Only (laid self.old) (laid self.new) level }
     {
         if level < self.level_of(new) {
             self.set_both(
@@ -30,68 +31,51 @@ impl<'a> Rows<'a> {
             self.set_both(level, new, suc, new, pre);
         } else {
             let count = pre.count + suc.count;
-            self.set_both(
-                level,
-                pre.row,
-                Link {
-                    row: suc.row,
-                    count,
-                },
-                suc.row,
-                Link {
-                    row: pre.row,
-                    count,
-                },
-            );
+            self.join(level, pre.row, suc.row, count);
         }
     }
 
     /// Takes the row `new`, which has its level, into every level at `count` steps from the head, from the top level down.
     pub(crate) fn enter(&mut self, count: u16, new: u16)
-        requires { (xs : List ℕ) × ((ys : List ℕ) × (Place (cells self.old) (first xs) new xs ys × (count ≡ length xs + 1))) }
-        ensures put { (xs ys : List ℕ) → Place (cells self.old) (first xs) new xs ys × (count ≡ length xs + 1) → Ring (cells self.new) xs (new ∷ ys) }
-        ensures levels { levels (cells self.new) ≡ levels (cells self.old) }
-        ensures len { self.new.len ≡ self.old.len }
+        requires { (xs : List ℕ) × ((ys : List ℕ) × (Place (laid self.old) (first xs) new xs ys × (count ≡ length xs + 1))) }
+        ensures put { (xs ys : List ℕ) → Place (laid self.old) (first xs) new xs ys × (count ≡ length xs + 1) → Ring (laid self.new) xs (new ∷ ys) }
+        ensures levels { levels (laid self.new) ≡ levels (laid self.old) }
     {
         let mut pre = Link { row: 0, count };
-        let mut left = self.level_of(0);
-        while left > 0 {
-            left -= 1;
-            pre = self.approach(left, pre);
-            let over = self.link(pre.row, Way::Ahead, left);
+        for level in (0..self.level_of(0)).rev() {
+            pre = self.approach(level, pre);
+            let over = self.link(pre.row, Way::Ahead, level);
             let suc = Link {
                 row: over.row,
                 count: over.count + 1 - pre.count,
             };
-            self.thread(left, new, pre, suc);
+            self.thread(level, new, pre, suc);
         }
     }
 
     /// Takes the row `new`, which has its level, into every level at the end, where the head's links back lead.
     pub(crate) fn append(&mut self, new: u16)
-        requires { (xs : List ℕ) × Place (cells self.old) (first xs) new xs [] }
-        ensures put { (xs : List ℕ) → Place (cells self.old) (first xs) new xs [] → Ring (cells self.new) xs (new ∷ []) }
-        ensures levels { levels (cells self.new) ≡ levels (cells self.old) }
-        ensures len { self.new.len ≡ self.old.len }
+        requires { (xs : List ℕ) × Place (laid self.old) (first xs) new xs [] }
+        ensures put { (xs : List ℕ) → Place (laid self.old) (first xs) new xs [] → Ring (laid self.new) xs (new ∷ []) }
+        ensures levels { levels (laid self.new) ≡ levels (laid self.old) }
     {
-        let height = self.level_of(0);
-        for level in 0..height {
+        for level in 0..self.level_of(0) {
             let pre = self.link(0, Way::Back, level);
             self.thread(level, new, pre, Link { row: 0, count: 1 });
         }
     }
 
-    /// Gives the row `row`, which is not in the order, its level, and the head no less, with links that lead round at the levels new to it.
-    pub(crate) fn raise(&mut self, row: u16, level: u8)
-        requires { (i : ℕ) × Enters (cells self.old) self.old.len i row level }
-        ensures put { (i : ℕ) → Enters (cells self.old) self.old.len i row level → Place (cells self.new) (first (turned (take i (order (cells self.old) self.old.len)) [])) row (turned (take i (order (cells self.old) self.old.len)) []) (drop i (order (cells self.old) self.old.len)) }
-        ensures levels { levels (cells self.new) ≡ slice_set (slice_set (levels (cells self.old)) row level) 0 (max level (slice_index (levels (cells self.old)) 0)) }
-        ensures len { self.new.len ≡ self.old.len }
+    /// Gives the row `row`, which is not in the order of `len` rows, its level, and the head no less, with links that lead round at the levels new to it.
+    pub(crate) fn raise(&mut self, len: u32, row: u16, level: u8)
+        requires holds { Holds (laid self.old) len }
+        requires enters { (i : ℕ) × Enters (laid self.old) len i row level }
+        ensures put { (i : ℕ) → Enters (laid self.old) len i row level → Place (laid self.new) (first (turned (take i (order (laid self.old) len)) [])) row (turned (take i (order (laid self.old) len)) []) (drop i (order (laid self.old) len)) }
+        ensures levels { levels (laid self.new) ≡ raised (levels (laid self.old)) row level }
     {
         let height = self.level_of(0);
         let around = Link {
             row: 0,
-            count: self.len as u16 + 1,
+            count: len as u16 + 1,
         };
         self.set_level(row, level);
         for fresh in height..level {
@@ -99,45 +83,18 @@ impl<'a> Rows<'a> {
         }
         self.set_level(0, level.max(height));
     }
-
-    /// Gives the row `row`, which is not in the order, its level, and puts it in at a place.
-    pub(crate) fn insert_at(&mut self, place: u32, row: u16, level: u8)
-        requires { Enters (cells self.old) self.old.len place row level }
-        ensures order { order (cells self.new) self.new.len ≡ take place (order (cells self.old) self.old.len) ++ row ∷ drop place (order (cells self.old) self.old.len) }
-        ensures holds { Holds (cells self.new) self.new.len }
-        ensures levels { levels (cells self.new) ≡ slice_set (slice_set (levels (cells self.old)) row level) 0 (max level (slice_index (levels (cells self.old)) 0)) }
-        ensures len { self.new.len ≡ self.old.len + 1 }
+    /// Gives the row `row`, which is not in the order of `len` rows, its level, and takes it in at a place: at the end with no walk.
+    pub(crate) fn insert(&mut self, len: u32, place: u32, row: u16, level: u8)
+        requires holds { Holds (laid self.old) len }
+        requires enters { Enters (laid self.old) len place row level }
+        ensures ring { Ring (laid self.new) [] (insert (order (laid self.old) len) place row) }
+        ensures levels { levels (laid self.new) ≡ raised (levels (laid self.old)) row level }
     {
-        self.raise(row, level);
-        self.enter(place as u16 + 1, row);
-        self.len += 1;
-    }
-
-    /// Gives the row `row`, which is not in the order, its level, and puts it at the end.
-    pub(crate) fn push(&mut self, row: u16, level: u8)
-        requires { Enters (cells self.old) self.old.len self.old.len row level }
-        ensures order { order (cells self.new) self.new.len ≡ order (cells self.old) self.old.len ++ row ∷ [] }
-        ensures holds { Holds (cells self.new) self.new.len }
-        ensures levels { levels (cells self.new) ≡ slice_set (slice_set (levels (cells self.old)) row level) 0 (max level (slice_index (levels (cells self.old)) 0)) }
-        ensures len { self.new.len ≡ self.old.len + 1 }
-    {
-        self.raise(row, level);
-        self.append(row);
-        self.len += 1;
-    }
-
-    /// Gives the row `row`, which is not in the order, its level, and puts it in at a place: at the end with no walk.
-    pub fn put(&mut self, place: u32, row: u16, level: u8)
-        requires { Enters (cells self.old) self.old.len place row level }
-        ensures order { order (cells self.new) self.new.len ≡ take place (order (cells self.old) self.old.len) ++ row ∷ drop place (order (cells self.old) self.old.len) }
-        ensures holds { Holds (cells self.new) self.new.len }
-        ensures levels { levels (cells self.new) ≡ slice_set (slice_set (levels (cells self.old)) row level) 0 (max level (slice_index (levels (cells self.old)) 0)) }
-        ensures len { self.new.len ≡ self.old.len + 1 }
-    {
-        if place == self.len {
-            self.push(row, level)
+        self.raise(len, row, level);
+        if place == len {
+            self.append(row);
         } else {
-            self.insert_at(place, row, level)
+            self.enter(place as u16 + 1, row);
         }
     }
 }

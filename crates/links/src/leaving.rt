@@ -1,39 +1,28 @@
 // How a row goes out, level by level.
-ghost use Rattle.std.specs.Prelude.{◌≡◌, ℕ, suc, ◌+◌, ◌<◌, List, ◌∷◌, ◌++◌, length, take, drop, slice_index};
-ghost use Rattle.links.specs.Cells.{cells, levels};
-ghost use Rattle.links.specs.Ring.{Holds, Level, Only, Onto, Ring, Sides, order};
-ghost use Rattle.links.specs.Chain.{limit, nearest, reach};
+ghost use Rattle.std.specs.Prelude.{◌≡◌, ℕ, ◌+◌, ◌<◌, List, ◌∷◌, length};
+ghost use Rattle.links.specs.Cell.{laid, levels};
+ghost use Rattle.links.specs.Ring.{Level, Only, Onto, Ring, Sides, Standing};
+ghost use Rattle.links.specs.Chain.{nearest, reach};
 
-use crate::{Link, Rows, Way};
+use crate::{Grid, Link, Way};
 
-impl<'a> Rows<'a> {
+impl<'a> Grid<'a> {
     /// Takes a row out of one level, given the nearest rows of the level on both sides of it: their links join.
     pub(crate) fn unthread(&mut self, level: u8, pre: Link, suc: Link)
-        requires { (level < 16) × (((n : ℕ) × ((xs : List ℕ) × ((ys : List ℕ) × Sides (cells self.old) level n pre suc xs ys)))) }
-        ensures put { (n : ℕ) (xs ys : List ℕ) → Sides (cells self.old) level n pre suc xs ys → Level (cells self.old) level xs (n ∷ ys) → Level (cells self.new) level xs ys }
-        ensures only { Only (cells self.old) (cells self.new) level }
-        ensures len { self.new.len ≡ self.old.len }
+        requires level { level < 16 }
+        requires sides { (n : ℕ) × ((xs : List ℕ) × ((ys : List ℕ) × Sides (laid self.old) level n pre suc xs ys)) }
+        ensures put { (n : ℕ) (xs ys : List ℕ) → Sides (laid self.old) level n pre suc xs ys → Level (laid self.old) level xs (n ∷ ys) → Level (laid self.new) level xs ys }
+        ensures only { Only (laid self.old) (laid self.new) level }
     {
         let count = pre.count + suc.count - 1;
-        self.set_both(
-            level,
-            pre.row,
-            Link {
-                row: suc.row,
-                count,
-            },
-            suc.row,
-            Link {
-                row: pre.row,
-                count,
-            },
-        );
+        self.join(level, pre.row, suc.row, count);
     }
 
     /// The nearest row of `level` beyond the row at a place, from the link over or onto that row.
     pub(crate) fn beyond(&self, level: u8, pre: Link, over: Link) -> Link
-        requires { (level < 16) × (((n : ℕ) × ((xs : List ℕ) × ((ys : List ℕ) × Onto (cells self.now) level n pre over xs ys)))) }
-        ensures { (n : ℕ) (xs ys : List ℕ) → Onto (cells self.now) level n pre over xs ys → result ≡ nearest (reach (levels (cells self.now)) level) ys }
+        requires level { level < 16 }
+        requires onto { (n : ℕ) × ((xs : List ℕ) × ((ys : List ℕ) × Onto (laid self.now) level n pre over xs ys)) }
+        ensures { (n : ℕ) (xs ys : List ℕ) → Onto (laid self.now) level n pre over xs ys → result ≡ nearest (reach (levels (laid self.now)) level) ys }
     {
         if over.count == pre.count {
             self.link(over.row, Way::Ahead, level)
@@ -47,70 +36,37 @@ impl<'a> Rows<'a> {
 
     /// Takes the row at `count` steps from the head out of every level, from the top level down, and says which it was.
     pub(crate) fn leave(&mut self, count: u16) -> u16
-        requires { (n : ℕ) × ((xs : List ℕ) × ((ys : List ℕ) × (Ring (cells self.old) xs (n ∷ ys) × (length xs + length ys + 2 < limit) × (count ≡ length xs + 1)))) }
-        ensures row { (n : ℕ) (xs ys : List ℕ) → Ring (cells self.old) xs (n ∷ ys) × (length xs + length ys + 2 < limit) × (count ≡ length xs + 1) → result ≡ n }
-        ensures put { (n : ℕ) (xs ys : List ℕ) → Ring (cells self.old) xs (n ∷ ys) × (length xs + length ys + 2 < limit) × (count ≡ length xs + 1) → Ring (cells self.new) xs ys }
-        ensures levels { levels (cells self.new) ≡ levels (cells self.old) }
-        ensures len { self.new.len ≡ self.old.len }
+        requires { (n : ℕ) × ((xs : List ℕ) × ((ys : List ℕ) × (Standing (laid self.old) xs n ys × (count ≡ length xs + 1)))) }
+        ensures row { (n : ℕ) (xs ys : List ℕ) → Standing (laid self.old) xs n ys × (count ≡ length xs + 1) → result ≡ n }
+        ensures put { (n : ℕ) (xs ys : List ℕ) → Standing (laid self.old) xs n ys × (count ≡ length xs + 1) → Ring (laid self.new) xs ys }
+        ensures levels { levels (laid self.new) ≡ levels (laid self.old) }
     {
         let mut pre = Link { row: 0, count };
         let mut row = 0u16;
-        let mut left = self.level_of(0);
-        while left > 0 {
-            left -= 1;
-            pre = self.approach(left, pre);
-            let over = self.link(pre.row, Way::Ahead, left);
+        for level in (0..self.level_of(0)).rev() {
+            pre = self.approach(level, pre);
+            let over = self.link(pre.row, Way::Ahead, level);
             row = over.row;
-            let suc = self.beyond(left, pre, over);
-            self.unthread(left, pre, suc);
+            let suc = self.beyond(level, pre, over);
+            self.unthread(level, pre, suc);
         }
         row
     }
 
     /// Takes `row` out of every level, and says at which place it stood.
     pub(crate) fn remove(&mut self, row: u16) -> u32
-        requires { (xs : List ℕ) × ((ys : List ℕ) × (Ring (cells self.old) xs (row ∷ ys) × (length xs + length ys + 2 < limit))) }
-        ensures place { (xs ys : List ℕ) → Ring (cells self.old) xs (row ∷ ys) × (length xs + length ys + 2 < limit) → result ≡ length xs }
-        ensures put { (xs ys : List ℕ) → Ring (cells self.old) xs (row ∷ ys) × (length xs + length ys + 2 < limit) → Ring (cells self.new) xs ys }
-        ensures levels { levels (cells self.new) ≡ levels (cells self.old) }
-        ensures len { self.new.len ≡ self.old.len }
+        requires { (xs : List ℕ) × ((ys : List ℕ) × Standing (laid self.old) xs row ys) }
+        ensures place { (xs ys : List ℕ) → Standing (laid self.old) xs row ys → result ≡ length xs }
+        ensures put { (xs ys : List ℕ) → Standing (laid self.old) xs row ys → Ring (laid self.new) xs ys }
+        ensures levels { levels (laid self.new) ≡ levels (laid self.old) }
     {
         let mut pre = self.link(row, Way::Back, 0);
-        let height = self.level_of(0);
-        for level in 0..height {
+        for level in 0..self.level_of(0) {
             let over = self.link(pre.row, Way::Ahead, level);
             let suc = self.beyond(level, pre, over);
             self.unthread(level, pre, suc);
             pre = self.climb(Way::Back, level, pre);
         }
         pre.count as u32 - 1
-    }
-
-    /// Takes out the row at a place, and says which it was.
-    pub fn remove_at(&mut self, place: u32) -> u16
-        requires { (Holds (cells self.old) self.old.len) × (place < self.old.len) }
-        ensures row { result ≡ slice_index (order (cells self.old) self.old.len) place }
-        ensures order { order (cells self.new) self.new.len ≡ take place (order (cells self.old) self.old.len) ++ drop (suc place) (order (cells self.old) self.old.len) }
-        ensures holds { Holds (cells self.new) self.new.len }
-        ensures levels { levels (cells self.new) ≡ levels (cells self.old) }
-        ensures len { self.new.len + 1 ≡ self.old.len }
-    {
-        let row = self.leave(place as u16 + 1);
-        self.len -= 1;
-        row
-    }
-
-    /// Takes out a row of the order, and says at which place it stood.
-    pub fn remove_row(&mut self, row: u16) -> u32
-        requires { (Holds (cells self.old) self.old.len) × (((i : ℕ) × ((i < self.old.len) × (row ≡ slice_index (order (cells self.old) self.old.len) i)))) }
-        ensures place { (i : ℕ) → i < self.old.len → row ≡ slice_index (order (cells self.old) self.old.len) i → result ≡ i }
-        ensures order { (i : ℕ) → i < self.old.len → row ≡ slice_index (order (cells self.old) self.old.len) i → order (cells self.new) self.new.len ≡ take i (order (cells self.old) self.old.len) ++ drop (suc i) (order (cells self.old) self.old.len) }
-        ensures holds { Holds (cells self.new) self.new.len }
-        ensures levels { levels (cells self.new) ≡ levels (cells self.old) }
-        ensures len { self.new.len + 1 ≡ self.old.len }
-    {
-        let place = self.remove(row);
-        self.len -= 1;
-        place
     }
 }

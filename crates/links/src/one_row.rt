@@ -1,9 +1,29 @@
-// One row: its level and its links.
+// One row: its level and its links, each with a way in which it leads.
 ghost use Rattle.std.specs.Prelude.{◌≡◌, ◌<◌};
-ghost use Rattle.links.specs.Cells.{Throughout, link_of, none, with_link};
+ghost use Rattle.links.specs.Cell.{Throughout, link_of, none, toward, with_link, with_toward};
 ghost use Rattle.links.specs.Chain.{nearby};
 
 use crate::{LevelLinks, Link, Links, Row, Way};
+
+impl LevelLinks {
+    fn toward(&self, way: Way) -> Link
+        ensures { result ≡ toward way self.now }
+    {
+        match way {
+            Way::Ahead => self.ahead,
+            Way::Back => self.back,
+        }
+    }
+
+    fn put(&mut self, way: Way, link: Link)
+        ensures { self.new ≡ with_toward way link self.old }
+    {
+        match way {
+            Way::Ahead => self.ahead = link,
+            Way::Back => self.back = link,
+        }
+    }
+}
 
 impl Row {
     /// A row that is in no order yet.
@@ -36,10 +56,7 @@ impl Row {
         requires { level < 16 }
         ensures { result ≡ link_of way level self.now }
     {
-        match way {
-            Way::Ahead => self.links.ahead(level),
-            Way::Back => self.links.back(level),
-        }
+        self.links.at[level as usize].toward(way)
     }
 
     pub(crate) fn set_link(&mut self, way: Way, level: u8, link: Link)
@@ -47,9 +64,6 @@ impl Row {
         ensures after { self.new ≡ with_link way level link self.old }
         ensures there { link_of way level self.new ≡ link }
     {
-        match way {
-            Way::Ahead => self.links.put_ahead(level, link),
-            Way::Back => self.links.put_back(level, link),
-        }
+        self.links.at[level as usize].put(way, link);
     }
 }

@@ -1,16 +1,13 @@
 -- Why `put` keeps its contract.
-use Rattle.std.proofs.Common.{◌∙◌}
-use Rattle.links.proofs.Entries.{enters_last, at_last}
+use Rattle.links.proofs.Orders.{held}
+use Rattle.links.proofs.Entries.{one_more}
 use Rattle.links.proofs.Rows.put.Goals as goal
 
-pub push-requires : goal.push-requires
-push-requires c = enters_last _ _ _ _ _ c.if-place-self.true c.requires
+pub insert-requires-clause-holds : goal.insert-requires-clause-holds
+insert-requires-clause-holds c = held _ _ c.args.self.now.holds
 
-pub returns-then-place-self : goal.returns-then-place-self
-returns-then-place-self c =
-    record {
-      order = c.push.ensures.order ∙ at_last _ _ _ _ c.if-place-self.true;
-      holds = c.push.ensures.holds;
-      levels = c.push.ensures.levels;
-      len = c.push.ensures.len;
-    }
+pub invariant_of-self : goal.invariant_of-self
+invariant_of-self c = record { holds = ∣ (one_more _ _ _ _ _ _ c.requires c.insert.ensures.ring).0 ∣₁ }
+
+pub returns-clause-order : goal.returns-clause-order
+returns-clause-order c = (one_more _ _ _ _ _ _ c.requires c.insert.ensures.ring).1
