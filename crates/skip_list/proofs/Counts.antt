@@ -1,8 +1,8 @@
 -- The count of a link is the difference of two positions.
+use Rattle.std.proofs.lemmas.Bool.{cases_Bool}
 use Rattle.std.proofs.Common.{◌≡◌, ℕ, zero, suc, ◌+◌, ◌-◌, ◌<◌, ◌≤◌, Bool, cond, ltb, List, [], ◌∷◌, reverse, length, get_or, take, drop, Some, None, Option, sym, refl, ap, ◌∙◌, subst, inl, inr, arith, length-drop}
 use mathlib.Core.List.{reverse_aux}
 use Rattle.std.proofs.lemmas.List.{get_or-drop, get_or-take, length-take-le}
-use Rattle.links.proofs.Chains.{known}
 use Rattle.skip_list.specs.Law.{NamesAhead, NamesBack}
 use Rattle.skip_list.specs.Tower.{further, link_ahead, link_back, nearest_key}
 
@@ -18,7 +18,7 @@ module _ {A : Type 0} where
   nearest_names l (x ∷ xs) (v ∷ vs) e =
       let more = names_on x xs (nearest_key l xs vs).count (nearest_key l xs vs).key (nearest_names l xs vs (omega arith)) in
       let P : Bool → Type 0 = λ b. NamesAhead (x ∷ xs) (cond b (record { key = Some x; count = 1 }) (further (nearest_key l xs vs))).count (cond b (record { key = Some x; count = 1 }) (further (nearest_key l xs vs))).key in
-      elim (known (ltb l v)) [
+      elim (cases_Bool (ltb l v)) [
         | inl y ↦ subst P (sym y) (omega arith, (omega arith, refl))
         | inr y ↦ subst P (sym y) more
       ]

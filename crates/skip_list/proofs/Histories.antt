@@ -8,13 +8,14 @@ use Rattle.order.specs.Order.{At, Absent}
 use Rattle.order.proofs.Places.{Before, before_inserted, before_removed}
 use Rattle.skip_list.specs.declared.lent.Lent.{Lent}
 use Rattle.skip_list.specs.Law.{LevelLaw}
-use Rattle.skip_list.specs.Lent.{Ready, kept}
+use Rattle.skip_list.specs.Lent.{kept}
 use Rattle.skip_list.proofs.Laws.{law_of}
 use Rattle.skip_list.specs.Level.{level_of}
 use Rattle.skip_list.specs.declared.report.KeyLinks.{KeyLinks}
 use Rattle.skip_list.specs.declared.fault.ListFault.{ListFault}
 use Rattle.skip_list.specs.Tower.{highs, height, Leveled, Linked}
-use Rattle.skip_list.specs.History.{Deed, put, out, order_after, levels_after, height_after, Fair, Told, LastPut, Largest, LevelTold, ToldNext, after_put}
+use Rattle.order.specs.Deeds.{Deed, Next, after_put, order_after, out, put}
+use Rattle.skip_list.specs.History.{levels_after, height_after, Fair, Told, LastPut, Largest, LevelTold}
 
 cases_le : (a b : ℕ) → (a ≤ b) ⊎ (b ≤ a)
 cases_le a b = ⊎_elim (λ h. inl (omega arith)) inr (cases_lt a b)
@@ -75,8 +76,8 @@ module _ {A : Type 0} where
   largest (out i ∷ ds) = largest ds
 
   -- a list that is ready and has the order, the levels and the height of a history obeys its law
-  pub tells : (ds : List (Deed A)) (s : Lent A) → Ready s → kept s ≡ order_after ds → highs s ≡ levels_after ds → height s ≡ height_after ds → Fair ds → Told ds s
-  tells ds s r o v h f =
+  pub tells : (ds : List (Deed A)) (s : Lent A) → kept s ≡ order_after ds → highs s ≡ levels_after ds → height s ≡ height_after ds → Fair ds → Told ds s
+  tells ds s o v h f =
       record {
         order = o;
         levels_are = v;
@@ -84,21 +85,21 @@ module _ {A : Type 0} where
         fair = f;
         last = λ j k a. last_draw ds j k f a;
         largest = largest ds;
-        links = λ l lt. subst (λ (xs : List A). LevelLaw s xs (levels_after ds) l) o (subst (λ (vs : List ℕ). LevelLaw s (kept s) vs l) v (law_of s r l (subst (λ (n : ℕ). l < n) (sym h) lt)));
+        links = λ l lt. subst (λ (xs : List A). LevelLaw s xs (levels_after ds) l) o (subst (λ (vs : List ℕ). LevelLaw s (kept s) vs l) v (law_of s l (subst (λ (n : ℕ). l < n) (sym h) lt)));
       }
 
-  pub told_put : (ds : List (Deed A)) (s t : Lent A) (i : ℕ) (k : A) (d v : ℕ) → Ready t → Told ds s → Absent (kept s) k → i ≤ length (kept s) → kept t ≡ insert (kept s) i k →
+  pub told_put : (ds : List (Deed A)) (s t : Lent A) (i : ℕ) (k : A) (d v : ℕ) → Told ds s → Absent (kept s) k → i ≤ length (kept s) → kept t ≡ insert (kept s) i k →
       highs t ≡ insert (highs s) i v → height t ≡ max v (height s) → v ≡ level_of d → Told (put i k d ∷ ds) t
-  told_put ds s t i k d v r w none le ks hs h e =
-      tells (put i k d ∷ ds) t r
+  told_put ds s t i k d v w none le ks hs h e =
+      tells (put i k d ∷ ds) t
       (ks ∙ ap (λ (x : List A). insert x i k) w.order)
       (hs ∙ ap (λ (x : List ℕ). insert x i v) w.levels_are ∙ ap (λ (x : ℕ). insert (levels_after ds) i x) e)
       (h ∙ ap (λ (x : ℕ). max v x) w.height_is ∙ ap (λ (x : ℕ). max x (height_after ds)) e)
       (subst (λ (x : List A). Absent x k) w.order none, subst (λ (x : List A). i ≤ length x) w.order le, w.fair)
 
-  pub told_out : (ds : List (Deed A)) (s t : Lent A) (i : ℕ) → Ready t → Told ds s → i < length (kept s) → kept t ≡ remove (kept s) i → highs t ≡ remove (highs s) i → height t ≡ height s → Told (out i ∷ ds) t
-  told_out ds s t i r w lt ks hs h =
-      tells (out i ∷ ds) t r
+  pub told_out : (ds : List (Deed A)) (s t : Lent A) (i : ℕ) → Told ds s → i < length (kept s) → kept t ≡ remove (kept s) i → highs t ≡ remove (highs s) i → height t ≡ height s → Told (out i ∷ ds) t
+  told_out ds s t i w lt ks hs h =
+      tells (out i ∷ ds) t
       (ks ∙ ap (λ (x : List A). remove x i) w.order)
       (hs ∙ ap (λ (x : List ℕ). remove x i) w.levels_are)
       (h ∙ w.height_is)
@@ -119,6 +120,6 @@ module _ {A : Type 0} where
       (subst (λ (x : List ℕ). Linked (kept s) x (height_after ds) of l r) w.levels_are
       (subst (λ (x : ℕ). Linked (kept s) (highs s) x of l r) w.height_is f))
 
-  pub told_next : (ds : List (Deed A)) (t : Lent A) (p k : A) (i d : ℕ) (r : Result Unit SetFault) → At (order_after ds) i p → Told (after_put r (put (i + 1) k d) ds) t → ToldNext r p k d ds t
-  told_next ds t p k i d (Ok u) a w = (i, a, w)
-  told_next ds t p k i d (Err e) a w = w
+  pub told_next : {B : Type 0} (told : List (Deed A) → B → Type 0) (ds : List (Deed A)) (t : B) (p k : A) (i d : ℕ) (r : Result Unit SetFault) → At (order_after ds) i p → told (after_put r (put (i + 1) k d) ds) t → Next told r p k d ds t
+  told_next told ds t p k i d (Ok u) a w = (i, a, w)
+  told_next told ds t p k i d (Err e) a w = w

@@ -1,38 +1,28 @@
 -- What a lookup found, in a list whose chains are those of the keys' hashes.
-use Rattle.std.proofs.Common.{◌≡◌, ℕ, zero, suc, ◌+◌, ◌*◌, ◌<◌, ◌≤◌, true, false, cond, eqb, List, [], ◌∷◌, length, get_or, set, is_some, Some, None, Ok, Err, Option, Result, sym, refl, ap, ◌∙◌, subst, ⊎_elim, arith}
-use mathlib.Core.HLevel.{Π_prop, ×_prop, →_prop}
-use mathlib.Core.Logic.{∥∥₁_elim, ∥∥₁_map, ∥∥₁_prop}
+use Rattle.std.proofs.Common.{◌≡◌, ℕ, zero, suc, ◌+◌, ◌*◌, ◌<◌, ◌≤◌, Bool, true, false, List, [], ◌∷◌, length, get_or, set, is_some, Some, None, Ok, Err, Option, Result, sym, refl, ap, ◌∙◌, subst, ⊎_elim, arith}
+use mathlib.Core.Logic.{∥∥₁_elim, ∥∥₁_map}
 use native.Mathlib.Bridge.{le_prop}
 use native.Mathlib.Nat.{ℕ_set}
 use Rattle.std.specs.List.{insert, remove}
-use Rattle.std.proofs.lemmas.Bool.{eq-eqb, ne_eqb, true≢false}
+use Rattle.std.proofs.lemmas.Bool.{true≢false}
 use Rattle.order.specs.declared.fault.SetFault.{SetFault}
 use Rattle.order.specs.declared.fault.SetFault.TheVariants.{Present, NoPredecessor, PastEnd, Full, Uneven}
 use Rattle.order.specs.Order.{Meaning, ordered, At, Absent, Stands, Distinct, InsertsAt, InsertsAfter}
 use Rattle.order.proofs.Places.{apart_inserted, apart_removed}
-use Rattle.links.specs.Cells.{cells, levels}
-use Rattle.links.specs.Ring.{Holds}
-use Rattle.links.proofs.Orders.{held}
 use Rattle.std.proofs.lemmas.List.{get_or_default}
-use Rattle.index.specs.Index.{Elsewhere, Indexed, Row, Used, homes, spot, tally}
-use Rattle.index.specs.Index as index
+use Rattle.index.specs.Index.{Row, Used, homes, spot, tally}
 use Rattle.index.proofs.Chains.{held_at, home_new, home_old}
 use Rattle.index.proofs.Cut.{room_left, room_none, free_unused}
 use Rattle.skip_list.specs.declared.lent.Lent.{Lent}
-use Rattle.skip_list.specs.declared.list.SkipList.{SkipList}
-use Rattle.skip_list.specs.Lent.{picked, keys_of, means, size, used, kept, Chained, Ready, Enters, Sound}
+use Rattle.skip_list.specs.Lent.{picked, keys_of, means, size, used, kept, Chained, Enters, Sound}
 use Rattle.skip_list.specs.Tower.{Taken}
 use Rattle.skip_list.specs.Memory.{Usable}
 use Rattle.skip_list.proofs.Picks.{kept_at, row_at, stands, stands_some}
 use Rattle.skip_list.proofs.Readies.{rows_below, row_low, length_used}
 
--- what the ghost fields hold
-pub readied : {A : Type 0} (s : Lent A) → size s ≤ 4096 → length s.index.slots.now ≡ size s + size s → length (levels (cells s.links)) ≡ size s + 1 → ∥ Holds (cells s.links) s.links.len ∥₁ → Ready s
-readied s few twice sized holds = record { few = few; twice = twice; sized = sized; holds = held _ _ holds }
-
--- the home of one row moved
-pub moved : (home : ℕ → ℕ) (r b : ℕ) → (after : ℕ → ℕ) × (after r ≡ b) × ((k : ℕ) → (k ≡ r → ⊥) → after k ≡ home k)
-moved home r b = ((λ k. cond (eqb k r) b (home k)), simp (eq-eqb r r refl), (λ k ne. simp (ne_eqb k r ne)))
+-- a sound list has chains
+pub chained : {A : Type 0} (identity : A → List ℕ) (hashed : List ℕ → ℕ) (s : Lent A) → Sound s identity hashed → ∥ ((home : ℕ → ℕ) × Chained s home (used s)) ∥₁
+chained identity hashed s x = ∥∥₁_map x.0 (λ u. (homes identity hashed (keys_of s), u))
 
 module _ {A : Type 0} (s : Lent A) (c : ∥ ((home : ℕ → ℕ) × Chained s home (used s)) ∥₁) where
   -- a row that was found is in use
@@ -51,52 +41,52 @@ module _ {A : Type 0} (s : Lent A) (c : ∥ ((home : ℕ → ℕ) × Chained s h
   pub within : length (used s) ≤ size s
   within = ∥∥₁_elim c le_prop (λ u. omega (arith, u.1.full))
 
-  pub entering : (i v : ℕ) → Ready s → i ≤ s.links.len → s.index.free < size s → 0 < v → v ≤ 16 → Enters s i v
-  entering i v h le low vl vh =
+  pub entering : (i v : ℕ) → i ≤ s.links.len → s.index.free < size s → 0 < v → v ≤ 16 → Enters s i v
+  entering i v le low vl vh =
       let f = row_free low in
-      record { ready = h; place = le; room = omega (arith, f.0, length_used s h); free_low = low; unused = f.1; level_low = vl; level_high = vh }
+      record { place = le; room = omega (arith, f.0, length_used s); free_low = low; unused = f.1; level_low = vl; level_high = vh }
 
 -- what is meant once a key was taken out
 pub means_taken : {A : Type 0} (s t : Lent A) (i : ℕ) (k : A) → Taken s i k t → means t ≡ ordered (means s) (remove (kept s) i)
 means_taken {A} s t i k w = ap (λ (xs : List A). record { order = xs; room = size t }) w.order_left ∙ ap (λ (ks : List A). record { order = remove (kept s) i; room = length ks }) w.keys_stay
 
 -- the key of a row stands at the place of the row
-pub there : {A : Type 0} (s : Lent A) (h : Ready s) (key : A) (i r : ℕ) → At (used s) i r → get_or (keys_of s) r key ≡ key → At (kept s) i key
-there s h key i r a e = kept_at (keys_of s) (used s) i r key (rows_below s h) a e
+pub there : {A : Type 0} (s : Lent A) (key : A) (i r : ℕ) → At (used s) i r → get_or (keys_of s) r key ≡ key → At (kept s) i key
+there s key i r a e = kept_at (keys_of s) (used s) i r key (rows_below s) a e
 
-module _ {A : Type 0} (identity : A → List ℕ) (hashed : List ℕ → ℕ) (whole : (a b : A) → identity a ≡ identity b → a ≡ b) (s : Lent A) (h : Ready s) where
+-- keys of one identity are one key
+pub whole_of : {A : Type 0} (identity : A → List ℕ) (eq : A → A → Bool) → ((a b : A) → (eq a b ≡ true → a ≡ b) × (identity a ≡ identity b → eq a b ≡ true)) → (a b : A) → identity a ≡ identity b → a ≡ b
+whole_of identity eq same a b e = (same a b).0 ((same a b).1 e)
+
+module _ {A : Type 0} (identity : A → List ℕ) (hashed : List ℕ → ℕ) (whole : (a b : A) → identity a ≡ identity b → a ≡ b) (s : Lent A) where
   pub found_at : (key : A) (r i : ℕ) → Row identity (keys_of s) (used s) key (Some r) → At (used s) i r → At (kept s) i key
-  found_at key r i f a = kept_at (keys_of s) (used s) i r key (rows_below s h) a (whole _ _ (sym (held_at identity (keys_of s) r key (row_low s h i r a)) ∙ f.1))
+  found_at key r i f a = kept_at (keys_of s) (used s) i r key (rows_below s) a (whole _ _ (sym (held_at identity (keys_of s) r key (row_low s i r a)) ∙ f.1))
 
   pub none_at : (key : A) → Row identity (keys_of s) (used s) key None → Absent (kept s) key
   none_at key f i a =
-      let q = row_at (keys_of s) (used s) i key (rows_below s h) a in
+      let q = row_at (keys_of s) (used s) i key (rows_below s) a in
       let r : ℕ = get_or (used s) i 0 in
       let there : At (used s) i r = (q.0, get_or_own (used s) i) in
-      f r (stands_some r (used s) i there) (held_at identity (keys_of s) r key (row_low s h i r there) ∙ ap identity q.1)
+      f r (stands_some r (used s) i there) (held_at identity (keys_of s) r key (row_low s i r there) ∙ ap identity q.1)
     where
       get_or_own : (xs : List ℕ) (i : ℕ) → get_or xs i (get_or xs i 0) ≡ get_or xs i 0
       get_or_own [] i = refl
       get_or_own (x ∷ xs) zero = refl
       get_or_own (x ∷ xs) (suc i) = get_or_own xs i
 
-  -- no other row holds the key at a place
-  pub only_row : (key : A) (i r : ℕ) → At (used s) i r → At (kept s) i key → Distinct (kept s) → Elsewhere identity (keys_of s) (used s) key r → ⊥
-  only_row key i r a k d (q, in_use, same, ne) =
-      let j = stands q (used s) in_use in
-      let e = d j.0 i key (found_at key q j.0 (in_use, same) j.1) k in
-      ne (sym j.1.1 ∙ ap (λ (x : ℕ). get_or (used s) x q) e ∙ get_or_default (used s) i q r a.0 ∙ a.1)
-
-  -- a key at a place leads to its row
-  pub lost_key : (key : A) (i r : ℕ) → At (used s) i r → get_or (keys_of s) r key ≡ key → Sound s identity hashed →
-      (0 < tally r (used s) → index.held identity (keys_of s) r ≡ identity key → Elsewhere identity (keys_of s) (used s) key r) → ⊥
-  lost_key key i r a e x f =
-      only_row key i r a (there s h key i r a e) x.1 (f (stands_some r (used s) i a) (held_at identity (keys_of s) r key (row_low s h i r a) ∙ ap identity e))
+  -- the home of the row at a place is that of the key there
+  pub home_there : (key : A) (i : ℕ) → At (kept s) i key → (r : ℕ) → At (used s) i r → homes identity hashed (keys_of s) r ≡ spot hashed (size s) (identity key)
+  home_there key i k r a =
+      let q = row_at (keys_of s) (used s) i key (rows_below s) k in
+      let e : get_or (used s) i 0 ≡ r = get_or_default (used s) i 0 r a.0 ∙ a.1 in
+      ap (λ (id : List ℕ). spot hashed (size s) id) (held_at identity (keys_of s) r key (row_low s i r a) ∙ ap identity (ap (λ (x : ℕ). get_or (keys_of s) x key) (sym e) ∙ q.1))
 
   -- the list stays sound when the key at a place is taken out
-  pub sound_taken : (t : Lent A) (i : ℕ) (k : A) → Taken s i k t → ((home : ℕ → ℕ) → Chained s home (used s) → Chained t home (used t)) → Sound s identity hashed → Sound t identity hashed
+  pub sound_taken : (t : Lent A) (i : ℕ) (k : A) → Taken s i k t
+      → ((home : ℕ → ℕ) → ((r : ℕ) → At (used s) i r → home r ≡ spot hashed (size s) (identity k)) → Chained s home (used s) → Chained t home (used t))
+      → Sound s identity hashed → Sound t identity hashed
   sound_taken t i k w chains x = (
-    ∥∥₁_map x.0 (λ u. subst (λ (ks : List A). Chained t (homes identity hashed ks) (used t)) (sym w.keys_stay) (chains (homes identity hashed (keys_of s)) u)),
+    ∥∥₁_map x.0 (λ u. subst (λ (ks : List A). Chained t (homes identity hashed ks) (used t)) (sym w.keys_stay) (chains (homes identity hashed (keys_of s)) (home_there k i w.stood) u)),
     subst Distinct (sym w.order_left) (apart_removed (kept s) i w.stood.0 x.1),
   )
 
@@ -139,15 +129,8 @@ after_at_lem v w p x i (Err PastEnd) a t = absurd (omega (arith, t.0.1, a.0))
 after_at_lem v w p x i (Err Full) a t = ((i, a, t.0), t.1)
 after_at_lem v w p x i (Err Uneven) a t = absurd t.0
 
-module _ {A : Type 0} (s : SkipList A) where
-  pub ready_list : Ready s.lent
-  ready_list = readied s.lent s.few s.twice s.sized s.holds
-
 pub apart_none : {A : Type 0} (xs : List A) → xs ≡ [] → Distinct xs
 apart_none xs e i j x a b = absurd (omega (arith, ap length e, a.0))
-
-pub free_at : (home : ℕ → ℕ) (slots : List ℕ) (m n : ℕ) → m ≡ n → Indexed home slots n 0 [] → Indexed home slots m 0 []
-free_at home slots m n e i = subst (λ (x : ℕ). Indexed home slots x 0 []) (sym e) i
 
 -- a list with no row in use
 module _ {A : Type 0} (s : Lent A) (none : used s ≡ []) where
@@ -167,7 +150,3 @@ usable_fits keys rows slots n e = ⊎_elim
     (λ q. (q.1.1, (omega (arith, q.0), (omega (arith, q.0), omega (arith, q.1.2)))))
     (λ q. (omega (arith, q.0), (omega (arith, q.0), (omega (arith, q.0), omega (arith, q.0)))))
     e
-
--- Soundness has one proof at most, so a struct over a row list can state it in a ghost field.
-pub sound_prop : {A : Type 0} (identity : A → List ℕ) (hashed : List ℕ → ℕ) (s : Lent A) → IsProp (Sound s identity hashed)
-sound_prop identity hashed s = ×_prop ∥∥₁_prop (Π_prop (λ i. Π_prop (λ j. Π_prop (λ x. →_prop (→_prop (ℕ_set i j))))))

@@ -1,10 +1,11 @@
 -- Links between keys, from links between rows.
+use Rattle.std.proofs.lemmas.Bool.{cases_Bool}
 use Rattle.std.proofs.Common.{◌≡◌, ℕ, zero, suc, ◌-◌, ◌<◌, ◌≤◌, Bool, cond, List, [], ◌∷◌, ◌++◌, map, length, get_or, take, drop, Some, Option, sym, refl, ap, ◌∙◌, inl, inr, arith}
 use mathlib.Core.List.{reverse_aux}
 use Rattle.links.specs.Chain.{Each, nearest, reach}
 use Rattle.links.specs.Report.{those}
 use Rattle.links.specs.Ring.{turned}
-use Rattle.links.proofs.Chains.{hit, miss, known}
+use Rattle.links.proofs.Chains.{hit, miss}
 use Rattle.links.proofs.Reports.{those_hit, those_miss}
 use Rattle.skip_list.specs.Law.{reaching}
 use Rattle.skip_list.specs.Lent.{lower, picked}
@@ -47,7 +48,7 @@ module _ {A : Type 0} (keys : List A) (ls : List ℕ) (l : ℕ) where
       let vs = high ls os in
       let here : nearest_key l (picked keys (lower (r ∷ os))) (high ls (r ∷ os)) ≡ cond (reach ls l r) (record { key = Some k.0; count = 1 }) (further (nearest_key l xs vs)) =
       ap (λ (ys : List A). nearest_key l (ys ++ xs) (get_or ls r 0 ∷ vs)) k.1 in
-      elim (known (reach ls l r)) [
+      elim (cases_Bool (reach ls l r)) [
         | inl y ↦ ap (key_link keys) (hit (reach ls l) r os y) ∙ ap (λ (o : Option A). record { key = o; count = 1 }) k.2
             ∙ sym (here ∙ ap (λ (v : Bool). cond v (record { key = Some k.0; count = 1 }) (further (nearest_key l xs vs))) y)
         | inr y ↦ ap (key_link keys) (miss (reach ls l) r os y) ∙ ap further (nearest_key_lem os b.1)
@@ -64,7 +65,7 @@ module _ {A : Type 0} (keys : List A) (ls : List ℕ) (l : ℕ) where
       let more = those_keys os b.1 in
       let here : reaching l (picked keys (lower (r ∷ os))) (high ls (r ∷ os)) ≡ cond (reach ls l r) (k.0 ∷ reaching l xs vs) (reaching l xs vs) =
       ap (λ (ys : List A). reaching l (ys ++ xs) (get_or ls r 0 ∷ vs)) k.1 in
-      elim (known (reach ls l r)) [
+      elim (cases_Bool (reach ls l r)) [
         | inl y ↦ ap (map (key_of keys)) (those_hit (reach ls l) r os y) ∙ ap (λ (o : Option A). o ∷ map (key_of keys) (those (reach ls l) os)) k.2 ∙ ap (λ (ys : List (Option A)). Some k.0 ∷ ys) more
             ∙ sym (ap (map Some) (here ∙ ap (λ (v : Bool). cond v (k.0 ∷ reaching l xs vs) (reaching l xs vs)) y))
         | inr y ↦ ap (map (key_of keys)) (those_miss (reach ls l) r os y) ∙ more ∙ sym (ap (map Some) (here ∙ ap (λ (v : Bool). cond v (k.0 ∷ reaching l xs vs) (reaching l xs vs)) y))

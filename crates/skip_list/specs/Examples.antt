@@ -1,6 +1,7 @@
 -- Worked cases: levels from draws, and the links of a level while keys come and go.
 use Rattle.std.specs.Prelude.{◌≡◌, ℕ, List, [], ◌∷◌, Some, None}
-use Rattle.skip_list.specs.History.{Deed, height_after, levels_after, order_after, out, put}
+use Rattle.order.specs.Deeds.{Deed, order_after, out, put}
+use Rattle.skip_list.specs.History.{height_after, levels_after}
 use Rattle.skip_list.specs.Level.{level_of}
 use Rattle.skip_list.specs.Tower.{head_links, links_at}
 

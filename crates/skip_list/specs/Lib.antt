@@ -6,6 +6,5 @@ pub mod Lent
 pub mod Level
 pub mod Memory
 pub mod Play
-pub mod Splice
 pub mod Tower
 pub mod Law

@@ -1,16 +1,17 @@
 -- What a call with its answer adds to the deeds that built a list, and what a script of calls does.
-use Rattle.std.specs.Prelude.{◌≡◌, ℕ, ◌+◌, false, List, [], ◌∷◌, is_some, is_ok, Ok, Err, Option, Result}
+use Rattle.std.specs.Prelude.{◌≡◌, ℕ, ◌+◌, false, List, [], ◌∷◌, is_some, is_ok, Some, Ok, Err, Option, Result}
 use Rattle.order.specs.declared.fault.SetFault.{SetFault}
 use Rattle.order.specs.Order.{At, Found, Given, InsertsAfter, InsertsAt, RemovesAt, RemovesKey}
 use Rattle.skip_list.specs.declared.call.Answer.{Answer}
-use Rattle.skip_list.specs.declared.call.Answer.TheVariants.{Key, Open, Place, Put, Spliced}
+use Rattle.skip_list.specs.declared.call.Answer.TheVariants.{Key, Place, Put, Spliced}
 use Rattle.skip_list.specs.declared.call.Call.{Call}
 use Rattle.skip_list.specs.declared.call.Call.TheVariants.{IndexOf, InsertAfter, InsertHead, InsertIndex, KeyOf, RemoveIndex, RemoveKey, Splice}
 use Rattle.skip_list.specs.declared.call.Turn.{Turn}
 use Rattle.skip_list.specs.declared.lent.Lent.{Lent}
-use Rattle.skip_list.specs.History.{Deed, Told, after_at, after_key, after_put, order_after, put}
+use Rattle.order.specs.Deeds.{Deed, after_at, after_key, after_put, order_after, put}
+use Rattle.layers.specs.Splice.{SpliceAdds, meant}
+use Rattle.skip_list.specs.History.{Told}
 use Rattle.skip_list.specs.Lent.{size}
-use Rattle.skip_list.specs.Splice.{SpliceAdds, meant}
 
 -- the deeds after an insertion directly after p
 abbrev pub PutAfter : {A : Type 0} → Result Unit SetFault → A → A → ℕ → List (Deed A) → List (Deed A) → Type 0
@@ -31,14 +32,13 @@ Adds {A} n ds (KeyOf i) a es = (r : Option A) × (a ≡ Key r) × Given (order_a
 -- a script of calls with their answers takes the deeds ds to es
 abbrev pub Plays : {A : Type 0} → ℕ → List (Deed A) → List (Turn A) → List (Deed A) → Type 0
 Plays n ds [] es = es ≡ ds
-Plays {A} n ds (t ∷ ts) es = (fs : List (Deed A)) × Adds n ds t.call t.answer fs × Plays n fs ts es
+Plays {A} n ds (t ∷ ts) es = (a : Answer A) × (fs : List (Deed A)) × (t.answer ≡ Some a) × Adds n ds t.call a fs × Plays n fs ts es
 
 abbrev pub called : {A : Type 0} → Turn A → Call A
 called t = t.call
 
 -- an answer that turns a call down, or finds nothing
 abbrev pub Refused : {A : Type 0} → Answer A → Type 0
-Refused Open = ⊥
 Refused (Put r) = is_ok r ≡ false
 Refused (Spliced r) = is_ok r ≡ false
 Refused (Place r) = is_some r ≡ false
@@ -51,6 +51,10 @@ pub record Carries {A : Type 0} (ds : List (Deed A)) (s : Lent A) (c : Call A) (
   pub told : Told after t
   pub room : size t ≡ size s
   pub unmoved : Refused a → t ≡ s
+
+-- the same of a turn, which then has its answer
+abbrev pub Answered : {A : Type 0} → List (Deed A) → Lent A → Turn A → Lent A → Type 0
+Answered {A} ds s t u = (a : Answer A) × (t.answer ≡ Some a) × Carries ds s t.call a u
 
 -- the same of a script of calls
 pub record Runs {A : Type 0} (ds : List (Deed A)) (s : Lent A) (ts : List (Turn A)) (t : Lent A) : Type 0 where

@@ -1,7 +1,7 @@
 // Calls of a row list as values, each with a cell for its answer.
 use order::fault::SetFault;
 
-// What may be asked of a row list.
+// What may be asked of a row list: a value and no closure, since the law of scripts speaks of it.
 #[derive(Drop)]
 pub enum Call<'b, K> {
     InsertHead {
@@ -40,16 +40,15 @@ pub enum Call<'b, K> {
 // What it answers.
 #[derive(Drop)]
 pub enum Answer<K> {
-    Open,
     Put(Result<(), SetFault>),
     Spliced(Result<u32, SetFault>),
     Place(Option<u32>),
     Key(Option<K>),
 }
 
-// A call, and what it answered.
+// A call, and what it answered, once it was carried out.
 #[derive(Drop)]
 pub struct Turn<'b, K> {
     pub call: Call<'b, K>,
-    pub answer: Answer<K>,
+    pub answer: Option<Answer<K>>,
 }

@@ -10,7 +10,7 @@ pub enum ListFault {
 }
 
 impl ListFault {
-    // The number under which it is reported.
+    // The number under which it is reported: the rules give each fault its own, so each type has its table.
     pub fn number(&self) -> u8
         ensures { result ≡ list_number self.now }
     {

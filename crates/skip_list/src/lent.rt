@@ -1,11 +1,7 @@
 // What is lent to a row list: keys beside links, and the index that finds the row of a key.
-ghost use Rattle.std.specs.Prelude.{◌≡◌, ℕ, ◌*◌, ◌<◌, ◌≤◌, true, false, List, [], length, slice_index_or};
-ghost use Rattle.order.specs.Order.{At};
-ghost use Rattle.index.specs.Index.{Index, Row, Used, spot, tally};
-ghost use Rattle.skip_list.specs.Lent.{Chained, Ready, keys_of, kept, used, size};
-ghost use Rattle.skip_list.specs.Tower.{height, highs};
+ghost use Rattle.std.specs.Prelude.{◌≡◌, ℕ, ◌+◌, ◌*◌, ◌<◌, ◌≤◌, true, false, List, [], length, slice_index_or};
+ghost use Rattle.links.specs.Cells.{cells, levels};
 
-use index::chain;
 use index::rows::Rows as KeyRows;
 use links::{Row as LinkRow, Rows as LinkRows};
 use order::key::{HashKey, Key};
@@ -15,17 +11,16 @@ use order::key::{HashKey, Key};
 pub(crate) struct Lent<'a, K> {
     pub(crate) index: KeyRows<'a, K>,
     pub(crate) links: LinkRows<'a>,
-}
-
-// The key in a row.
-pub(crate) fn element<K: Copy>(keys: &[K], at: usize) -> K
-    requires { at < length keys.now }
-    ensures { result ≡ slice_index_or keys.now at result }
-{
-    keys[at]
+    ghost few: { length index.keys.now ≤ 4096 },
+    ghost sized: { length (levels (cells links)) ≡ length index.keys.now + 1 },
 }
 
 impl<'a, K: HashKey> Lent<'a, K> {
+    ghost use Rattle.order.specs.Order.{At};
+    ghost use Rattle.index.specs.Index.{Index, Row, Used, spot, tally};
+    ghost use Rattle.skip_list.specs.Lent.{Chained, keys_of, kept, used, size};
+    ghost use Rattle.skip_list.specs.Tower.{height, highs};
+
     // No key in n rows.
     pub(crate) fn new(
         keys: &'a mut [K],
@@ -33,8 +28,10 @@ impl<'a, K: HashKey> Lent<'a, K> {
         slots: &'a mut [u16],
         n: usize,
     ) -> Lent<'a, K>
-        requires { (n ≤ 4096) × ((n ≤ length keys.old) × ((n ≤ length rows.old) × (2 * n ≤ length slots.old))) }
-        ensures ready { Ready result }
+        requires few { n ≤ 4096 }
+        requires keys { n ≤ length keys.old }
+        requires rows { n ≤ length rows.old }
+        requires slots { 2 * n ≤ length slots.old }
         ensures size { size result ≡ n }
         ensures used { used result ≡ [] }
         ensures highs { highs result ≡ [] }
@@ -44,21 +41,14 @@ impl<'a, K: HashKey> Lent<'a, K> {
         let keys = &mut keys[0..n];
         let rows = &mut rows[0..n];
         let slots = &mut slots[0..2 * n];
-        chain::clear(slots, n);
         Lent {
-            index: KeyRows {
-                keys,
-                slots,
-                free: 0,
-            },
+            index: KeyRows::new(keys, slots),
             links: LinkRows::new(rows),
         }
     }
 
     // Takes every key out.
     pub(crate) fn clear(&mut self)
-        requires { Ready self.old }
-        ensures ready { Ready self.new }
         ensures size { size self.new ≡ size self.old }
         ensures used { used self.new ≡ [] }
         ensures highs { highs self.new ≡ [] }
@@ -71,7 +61,6 @@ impl<'a, K: HashKey> Lent<'a, K> {
 
     // The row of a key.
     pub(crate) fn find(&self, key: &K) -> Option<u16>
-        requires { Ready self.now }
         ensures row { (rows : List ℕ) → Index K.Key.identity K.HashKey.hashed (keys_of self.now) self.now.index.slots.now self.now.index.free rows → Row K.Key.identity (keys_of self.now) rows key.now result }
         ensures used { (home : ℕ → ℕ) (rows : List ℕ) → Chained self.now home rows → Used home (spot K.HashKey.hashed (size self.now) (K.Key.identity key.now)) rows result }
     {
@@ -80,7 +69,7 @@ impl<'a, K: HashKey> Lent<'a, K> {
 
     // The place of a row of the order.
     pub(crate) fn place(&self, row: u16) -> u32
-        requires { (Ready self.now) × (0 < tally row (used self.now)) }
+        requires { 0 < tally row (used self.now) }
         ensures { At (used self.now) result row }
     {
         self.links.index_of(row + 1)
@@ -91,20 +80,26 @@ impl<'a, K: HashKey> Lent<'a, K> {
         requires { row < size self.now }
         ensures { slice_index_or (keys_of self.now) row result ≡ result }
     {
-        element(self.index.keys, row as usize)
+        self.index.keys[row as usize]
     }
 
     // The key at a place.
     pub(crate) fn key_at(&self, place: u32) -> K
-        requires { (Ready self.now) × (place < self.now.links.len) }
+        requires { place < self.now.links.len }
         ensures { At (kept self.now) place result }
     {
         let row = self.links.nth(place);
-        element(self.index.keys, row as usize - 1)
+        self.key_in(row - 1)
+    }
+
+    // How many levels the head has.
+    pub(crate) fn height(&self) -> u8
+        ensures { result ≡ height self.now }
+    {
+        self.links.level_of(0)
     }
 
     pub(crate) fn room(&self) -> u32
-        requires { size self.now ≤ 4096 }
         ensures { result ≡ size self.now }
     {
         self.index.keys.len() as u32

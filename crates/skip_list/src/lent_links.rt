@@ -1,10 +1,10 @@
 // Levels and links by row, told as levels and links of keys.
 ghost use Rattle.std.specs.Prelude.{◌≡◌, ℕ, ◌<◌, ◌≤◌, slice_index};
 ghost use Rattle.order.specs.Order.{At, Stands};
-ghost use Rattle.skip_list.specs.Lent.{Ready, keys_of, kept, used, size};
+ghost use Rattle.skip_list.specs.Lent.{keys_of, kept, used, size};
 ghost use Rattle.skip_list.specs.Tower.{head_links, height, highs, key_link, links_at};
 
-use crate::lent::{Lent, element};
+use crate::lent::Lent;
 use crate::report::{KeyLink, KeyLinks};
 use links::{Link, Way};
 use order::key::{HashKey, Key};
@@ -21,7 +21,7 @@ impl<'a, K: HashKey> Lent<'a, K> {
                 count: link.count,
             };
         }
-        let key = element(self.index.keys, link.row as usize - 1);
+        let key = self.key_in(link.row - 1);
         KeyLink {
             key: Some(key),
             count: link.count,
@@ -30,7 +30,7 @@ impl<'a, K: HashKey> Lent<'a, K> {
 
     // The head's links at a level.
     pub(crate) fn head_links(&self, level: u8) -> KeyLinks<K>
-        requires { (Ready self.now) × (level < height self.now) }
+        requires { level < height self.now }
         ensures { result ≡ head_links (kept self.now) (highs self.now) level }
     {
         let ahead = self.links.link(0, Way::Ahead, level);
@@ -45,7 +45,7 @@ impl<'a, K: HashKey> Lent<'a, K> {
 
     // The level of a row of the order.
     pub(crate) fn level_at(&self, row: u16) -> u8
-        requires { (Ready self.now) × (Stands (used self.now) row) }
+        requires { Stands (used self.now) row }
         ensures { (i : ℕ) → At (used self.now) i row → result ≡ slice_index (highs self.now) i }
     {
         self.links.level_of(row + 1)
@@ -53,7 +53,7 @@ impl<'a, K: HashKey> Lent<'a, K> {
 
     // The links at a level of a row of the order.
     pub(crate) fn links_at(&self, row: u16, level: u8) -> KeyLinks<K>
-        requires { (Ready self.now) × (((i : ℕ) × At (used self.now) i row × (level < slice_index (highs self.now) i))) }
+        requires { (i : ℕ) × At (used self.now) i row × (level < slice_index (highs self.now) i) }
         ensures { (i : ℕ) → At (used self.now) i row → level < slice_index (highs self.now) i → result ≡ links_at (kept self.now) (highs self.now) level i }
     {
         let ahead = self.links.link(row + 1, Way::Ahead, level);

@@ -15,4 +15,3 @@ mod putting;
 pub mod report;
 mod reports;
 pub mod set;
-mod splice;

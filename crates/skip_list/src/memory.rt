@@ -6,7 +6,7 @@ use crate::fault::ListFault;
 // The most rows that a list takes.
 const MOST: usize = 4096;
 
-// The number of rows that the memory has, if it is memory for a list.
+// The number of rows that the memory has, if it is memory for a list. By its lengths alone, so that it can be asked before anything is lent.
 pub fn check_memory(keys: usize, rows: usize, slots: usize) -> Result<usize, ListFault>
     ensures { MemoryFor keys rows slots result }
 {
@@ -21,8 +21,5 @@ pub fn check_memory(keys: usize, rows: usize, slots: usize) -> Result<usize, Lis
 pub(crate) fn usable_rows(keys: usize, rows: usize, slots: usize) -> usize
     ensures { Usable keys rows slots result }
 {
-    match check_memory(keys, rows, slots) {
-        Ok(n) => n,
-        Err(_) => 0,
-    }
+    check_memory(keys, rows, slots).unwrap_or(0)
 }

@@ -1,8 +1,9 @@
 // Reports of levels and links.
 ghost use Rattle.std.specs.Prelude.{List};
-ghost use Rattle.skip_list.specs.Lent.{Sound, kept};
+ghost use Rattle.skip_list.specs.Lent.{kept};
 ghost use Rattle.skip_list.specs.Tower.{HeadLinks, Leveled, Linked, LinksOf, height, highs};
-ghost use Rattle.skip_list.specs.History.{Deed, LevelTold, Told, height_after, levels_after, order_after};
+ghost use Rattle.order.specs.Deeds.{Deed, order_after};
+ghost use Rattle.skip_list.specs.History.{LevelTold, Told, height_after, levels_after};
 
 use crate::fault::ListFault;
 use crate::list::SkipList;
@@ -12,8 +13,8 @@ use order::key::{HashKey, Key};
 impl<'a, K: HashKey> SkipList<'a, K> {
     // The level of a key, or none.
     pub fn level_report(&self, key: K) -> Option<u8>
-        ensures level { Sound self.now.lent K.Key.identity K.HashKey.hashed → Leveled (kept self.now.lent) (highs self.now.lent) key result }
-        ensures told { Sound self.now.lent K.Key.identity K.HashKey.hashed → (ds : List (Deed K)) → Told ds self.now.lent → LevelTold ds key result }
+        ensures level { Leveled (kept self.now.lent) (highs self.now.lent) key result }
+        ensures told { (ds : List (Deed K)) → Told ds self.now.lent → LevelTold ds key result }
     {
         let row = self.lent.find(&key)?;
         Some(self.lent.level_at(row))
@@ -21,8 +22,8 @@ impl<'a, K: HashKey> SkipList<'a, K> {
 
     // The links ahead and back, at one level, of a key or of the head.
     pub fn link_report(&self, of: Option<K>, level: u8) -> Result<KeyLinks<K>, ListFault>
-        ensures links { Sound self.now.lent K.Key.identity K.HashKey.hashed → Linked (kept self.now.lent) (highs self.now.lent) (height self.now.lent) of level result }
-        ensures told { Sound self.now.lent K.Key.identity K.HashKey.hashed → (ds : List (Deed K)) → Told ds self.now.lent → Linked (order_after ds) (levels_after ds) (height_after ds) of level result }
+        ensures links { Linked (kept self.now.lent) (highs self.now.lent) (height self.now.lent) of level result }
+        ensures told { (ds : List (Deed K)) → Told ds self.now.lent → Linked (order_after ds) (levels_after ds) (height_after ds) of level result }
     {
         match of {
             None => self.head_links(level),
@@ -33,14 +34,14 @@ impl<'a, K: HashKey> SkipList<'a, K> {
     fn head_links(&self, level: u8) -> Result<KeyLinks<K>, ListFault>
         ensures { HeadLinks (kept self.now.lent) (highs self.now.lent) (height self.now.lent) level result }
     {
-        if level >= self.lent.links.head.level {
+        if level >= self.lent.height() {
             return Err(ListFault::NoLevel);
         }
         Ok(self.lent.head_links(level))
     }
 
     fn key_links(&self, key: K, level: u8) -> Result<KeyLinks<K>, ListFault>
-        ensures { Sound self.now.lent K.Key.identity K.HashKey.hashed → LinksOf (kept self.now.lent) (highs self.now.lent) key level result }
+        ensures { LinksOf (kept self.now.lent) (highs self.now.lent) key level result }
     {
         let Some(row) = self.lent.find(&key) else {
             return Err(ListFault::NoKey);

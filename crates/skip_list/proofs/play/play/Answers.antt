@@ -6,12 +6,10 @@ use Rattle.skip_list.proofs.play.play.Goals as goal
 
 pub returns : goal.returns
 returns g c =
-    let h = c.new-list.ensures.sound in
-    let r = c.run.ensures.told h [] c.new-list.ensures.told in
+    let r = c.run.ensures.told [] c.new-list.ensures.told in
     record {
       room = subst (λ (n : ℕ). Usable (length c.args.keys.now) (length c.args.rows.now) (length c.args.slots.now) n) (sym r.room) c.new-list.ensures.room;
       called = c.run.ensures.called;
-      sound = c.run.ensures.sound h;
       law = record {
         deeds = r.after;
         plays = subst (λ (n : ℕ). Plays n [] c.run.new.turns r.after) (sym r.room) r.plays;

@@ -1,5 +1,5 @@
 -- Why `head_links` keeps its contract.
-use Rattle.std.proofs.Common.{◌≡◌, ◌≤◌, None, sym, ap, ◌∙◌, subst, arith}
+use Rattle.std.proofs.Common.{◌≡◌, ◌≤◌, None, sym, ap, ◌∙◌, subst}
 use Rattle.links.specs.declared.Link.{Link}
 use Rattle.skip_list.specs.declared.report.KeyLink.{KeyLink}
 use Rattle.skip_list.specs.Lent.{keys_of, kept, size}
@@ -7,17 +7,14 @@ use Rattle.skip_list.specs.Tower.{highs, key_link, link_ahead}
 use Rattle.skip_list.proofs.Laws.{ahead_low, ahead_of, head_keeps}
 use Rattle.skip_list.proofs.lent.Lent.head_links.Goals as goal
 
-pub link-ahead-requires : goal.link-ahead-requires
-link-ahead-requires g c = (omega (arith, c.requires.0.sized), omega (arith, c.requires.1, c.requires.0.holds.0.head_tall.1))
-
 pub named-requires : goal.named-requires
 named-requires g c =
-    subst (λ (k : Link). k.row ≤ size c.args.self.now) (sym (c.link-ahead.ensures ∙ head_keeps c.args.self.now c.requires.0 c.args.level c.requires.1))
-    (ahead_low c.args.self.now c.requires.0 c.args.level 0)
+    subst (λ (k : Link). k.row ≤ size c.args.self.now) (sym (c.link-ahead.ensures ∙ head_keeps c.args.self.now c.args.level c.requires))
+    (ahead_low c.args.self.now c.args.level 0)
 
 pub returns : goal.returns
 returns g c =
     let s = c.args.self.now in
     let e : c.named.result ≡ link_ahead (kept s) (highs s) c.args.level 0 =
-    c.named.ensures ∙ ap (key_link (keys_of s)) (c.link-ahead.ensures ∙ head_keeps s c.requires.0 c.args.level c.requires.1) ∙ ahead_of s c.requires.0 c.args.level 0 in
+    c.named.ensures ∙ ap (key_link (keys_of s)) (c.link-ahead.ensures ∙ head_keeps s c.args.level c.requires) ∙ ahead_of s c.args.level 0 in
     ap (λ (k : KeyLink _). record { ahead = k; back = record { key = None; count = 0 } }) e

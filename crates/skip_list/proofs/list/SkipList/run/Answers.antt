@@ -9,16 +9,12 @@ use Rattle.skip_list.proofs.list.SkipList.run.Goals as goal
 pub loop-turn-preserved : goal.loop-turn-preserved
 loop-turn-preserved g c = (
   calls_stay c.loop-turn.turns c.loop-turn.turn-index c.take_turn.new.turn _ c.take_turn.ensures.called ∙ c.loop-turn.invariant.0,
-  λ h. let a = c.loop-turn.invariant.1 h in (
-    c.take_turn.ensures.sound a.0,
-    λ ds w. runs_more ds _ _ _ c.loop-turn.turns c.loop-turn.turn-index c.take_turn.new.turn (omega arith) (a.1 ds w) (c.take_turn.ensures.told a.0),
-  ),
+  λ ds w. runs_more ds _ _ _ c.loop-turn.turns c.loop-turn.turn-index c.take_turn.new.turn (omega arith) (c.loop-turn.invariant.1 ds w) c.take_turn.ensures.told,
 )
 
 pub returns : goal.returns
 returns g c =
     record {
       called = c.loop-turn.invariant.0;
-      sound = λ h. (c.loop-turn.invariant.1 h).0;
-      told = λ h ds w. subst (λ (ts : List (Turn _)). Runs ds c.args.self.now.lent ts c.loop-turn.self.lent) (take_all c.loop-turn.turn-index c.loop-turn.turns (omega arith)) ((c.loop-turn.invariant.1 h).1 ds w);
+      told = λ ds w. subst (λ (ts : List (Turn _)). Runs ds c.args.self.now.lent ts c.loop-turn.self.lent) (take_all c.loop-turn.turn-index c.loop-turn.turns (omega arith)) (c.loop-turn.invariant.1 ds w);
     }
