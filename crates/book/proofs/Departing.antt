@@ -9,7 +9,7 @@ use Rattle.book.specs.declared.call.Answer.{Answer}
 use Rattle.book.specs.declared.call.Answer.TheVariants.{Sent}
 use Rattle.book.specs.declared.call.Turn.{Turn}
 use Rattle.book.specs.declared.call.Call.{Call}
-use Rattle.book.specs.Books.{Turnout}
+use Rattle.book.specs.Rules.{Turnout}
 use Rattle.book.specs.Calls.{Carries, sent, turn}
 use Rattle.book.specs.Law.{Follows, RouteLaw, SameFront, before}
 use Rattle.book.specs.Pages.{Decides, approach}
@@ -55,12 +55,12 @@ refused_wrongly start h u f on lt reasons =
     ⊎_elim (λ off. off.1 on)
     (λ none. let e = ap length none.2 in let d = length-drop (length (left h)) (joined h) in omega arith) reasons
 
-found_none : (start : Board) (h : List Turn) (j i u : ℕ) (tag : TrainTag) (a : Answer) (r : Result (Option (TrainTag × ℕ × ℕ)) BookFault)
+found_none : (start : Board) (h : List Turn) (j i u : ℕ) (tag : TrainTag) (a : Result Answer BookFault) (r : Result (Option (TrainTag × ℕ × ℕ)) BookFault)
     → j < i → At h j (turn (Send u) a) → Turnout u → SameFront h j i
     → At (joined (take i h)) (length (left (take i h))) tag → a ≡ sent r → SendAnswer u r (before start h j)
     → Decides (before start h j).book (approach u tag.class) None
 found_none start h j i u tag a (Ok (Some d)) lt at on (in-yard, still) next e b =
-    let more = left_more h j i (turn (Send u) (Sent (Some d))) lt (subst (λ (x : Answer). At h j (turn (Send u) x)) e at) in absurd (omega arith)
+    let more = left_more h j i (turn (Send u) (Ok (Sent (Some d)))) lt (subst (λ (x : Result Answer BookFault). At h j (turn (Send u) x)) e at) in absurd (omega arith)
 found_none start h j i u tag a (Ok None) lt at on (in-yard, still) next e (_, (front, here, none)) =
     let next' = subst (λ (k : ℕ). At (joined (take i h)) k tag) (sym still) next in
     let same = at_same (joined (take j h)) (length (left (take j h))) front tag (next_joined _ _ front here) (joined_stays h j i _ tag (omega arith) in-yard next') in
@@ -70,12 +70,12 @@ found_none start h j i u tag a (Err f) lt at on (in-yard, still) next e b =
 
 -- the train that a send let go was the next of those that joined
 was_next : (start : Board) (h : List Turn) (t : ℕ) (d : TrainTag × ℕ × ℕ) (r : Result (Option (TrainTag × ℕ × ℕ)) BookFault)
-    → Sent (Some d) ≡ sent r → SendAnswer t r (reached start h) → At (joined h) (length (left h)) d.0
+    → Ok (Sent (Some d)) ≡ sent r → SendAnswer t r (reached start h) → At (joined h) (length (left h)) d.0
 was_next start h t d (Ok (Some d')) e b =
     let same : d' ≡ d = cc in
     subst (λ (x : TrainTag × ℕ × ℕ). At (joined h) (length (left h)) x.0) same (next_joined _ _ d'.0 b.1.0)
-was_next start h t d (Ok None) e b = let z : ◌≡◌ {A = ℕ} 0 1 = cc in absurd (omega arith)
-was_next start h t d (Err f) e b = let z : ◌≡◌ {A = ℕ} 0 1 = cc in absurd (omega arith)
+was_next start h t d (Ok None) e b = absurd cc
+was_next start h t d (Err f) e b = absurd cc
 
 pub route_law : (start : Board) (h : List Turn) (v : Board) → Follows start h v → RouteLaw start h v
 route_law start h v follows = record {
@@ -86,14 +86,14 @@ route_law start h v follows = record {
   obeyed = follows.obeyed;
   in_turn = follows.yard_waits ∙ ap (λ (ts : List TrainTag). left h ++ ts) (waits_rest start h v follows);
   first_send = λ i j t u d a at lt at' on same.
-      let then' = follows.obeyed i (turn (Send t) (Sent (Some d))) at in
+      let then' = follows.obeyed i (turn (Send t) (Ok (Sent (Some d)))) at in
       let now' = follows.obeyed j (turn (Send u) a) at' in
       found_none start h j i u d.0 a now'.0 lt at' on same (was_next start (take i h) t d then'.0 then'.1 then'.2) now'.1 now'.2;
   leads = is_reached start h v follows;
 }
 
 -- a history goes on with one more turn, lawfully
-pub go_on : (start : Board) (h : List Turn) (v : Board) → Follows start h v → (w : Board) (call : Call) (a : Answer)
+pub go_on : (start : Board) (h : List Turn) (v : Board) → Follows start h v → (w : Board) (call : Call) (a : Result Answer BookFault)
     → Carries call a v w → Follows start (h ++ turn call a ∷ []) w × RouteLaw start (h ++ turn call a ∷ []) w
 go_on start h v follows w call a carried =
     let on = follow_turn start h v follows w call a carried in (on, route_law start (h ++ turn call a ∷ []) w on)

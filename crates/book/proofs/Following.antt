@@ -13,7 +13,7 @@ use Rattle.book.specs.declared.fault.BookFault.{BookFault}
 use Rattle.book.specs.declared.call.Call.{Call}
 use Rattle.book.specs.declared.call.Call.TheVariants.{Add, Drop, Move, Join, Send, Decide}
 use Rattle.book.specs.declared.call.Answer.{Answer}
-use Rattle.book.specs.declared.call.Answer.TheVariants.{Placed, Decided, Sent, Refused}
+use Rattle.book.specs.declared.call.Answer.TheVariants.{Placed, Decided, Sent}
 use Rattle.book.specs.declared.call.Turn.{Turn}
 use Rattle.book.specs.Books.{Adds, Answers, Drops, Moves}
 use Rattle.book.specs.Calls.{Carries, Obeys, decided, placed, sent, turn}
@@ -107,20 +107,20 @@ module _ (start : Board) (h : List Turn) (v : Board) (follows : Follows start h 
     still_apart : w.book ≡ v.book → Distinct w.book.numbers.order
     still_apart e = subst (λ (p : Pages). Distinct p.numbers.order) (sym e) follows.apart
 
-    refused : (call : Call) (f : BookFault) → Obeys v call (Refused f) → w.book ≡ v.book → w.yard ≡ v.yard → Follows start (h ++ turn call (Refused f) ∷ []) w
+    refused : (call : Call) (f : BookFault) → Obeys v call (Err f) → w.book ≡ v.book → w.yard ≡ v.yard → Follows start (h ++ turn call (Err f) ∷ []) w
     refused call f obeys book yard =
-        follow (turn call (Refused f)) obeys book (rest_stays _ yard) (ap (λ (ts : List TrainTag). v.yard.order ++ ts) (joins_refused call) ∙ stays yard) (still_apart book)
+        follow (turn call (Err f)) obeys book (rest_stays _ yard) (ap (λ (ts : List TrainTag). v.yard.order ++ ts) (joins_refused call) ∙ stays yard) (still_apart book)
 
     follow_add : (n : ℕ) (rule : Rule) (place draw : ℕ) (r : Result ℕ BookFault) → Adds n rule place r v.book w.book → w.yard ≡ v.yard
         → Follows start (h ++ turn (Add n rule place draw) (placed r) ∷ []) w
     follow_add n rule place draw (Ok p) (answer, book) yard =
-        follow (turn (Add n rule place draw) (Placed p)) (Ok p, refl, answer) book (rest_stays _ yard) (stays yard)
+        follow (turn (Add n rule place draw) (Ok (Placed p))) (Ok p, refl, answer) book (rest_stays _ yard) (stays yard)
         (subst (λ (p : Pages). Distinct p.numbers.order) (sym book) (apart_inserted _ place (key n) answer.1.1 answer.1.0 follows.apart))
     follow_add n rule place draw (Err f) (answer, book) yard = refused (Add n rule place draw) f (Err f, refl, answer) book yard
 
     follow_drop : (n : ℕ) (r : Result ℕ BookFault) → Drops n r v.book w.book → w.yard ≡ v.yard → Follows start (h ++ turn (Drop n) (placed r) ∷ []) w
     follow_drop n (Ok p) (answer, book) yard =
-        follow (turn (Drop n) (Placed p)) (Ok p, refl, answer)
+        follow (turn (Drop n) (Ok (Placed p))) (Ok p, refl, answer)
         (book ∙ ap (λ (xs : List RuleNumber). rewritten (reordered v.book xs) n None) (sym (leave_is _ p n follows.apart answer.1))) (rest_stays _ yard) (stays yard)
         (subst (λ (p : Pages). Distinct p.numbers.order) (sym book) (apart_removed _ p answer.1.0 follows.apart))
     follow_drop n (Err f) (answer, book) yard = refused (Drop n) f (Err f, refl, answer) book yard
@@ -129,7 +129,7 @@ module _ (start : Board) (h : List Turn) (v : Board) (follows : Follows start h 
         → Follows start (h ++ turn (Move n place draw) (placed r) ∷ []) w
     follow_move n place draw (Ok p) (answer, (i, at, book)) yard =
         let len = length-remove v.book.numbers.order i at.0 in
-        follow (turn (Move n place draw) (Placed p)) (Ok p, refl, answer)
+        follow (turn (Move n place draw) (Ok (Placed p))) (Ok p, refl, answer)
         (book ∙ ap (λ (xs : List RuleNumber). reordered v.book (insert xs place (key n))) (sym (leave_is _ i n follows.apart at))) (rest_stays _ yard) (stays yard)
         (subst (λ (p : Pages). Distinct p.numbers.order) (sym book)
         (apart_inserted _ place (key n) (omega (arith, answer.2)) (removed_absent _ i (key n) follows.apart at) (apart_removed _ i at.0 follows.apart)))
@@ -138,29 +138,29 @@ module _ (start : Board) (h : List Turn) (v : Board) (follows : Follows start h 
     follow_join : (tag : TrainTag) (draw : ℕ) (r : Result ℕ BookFault) → Joins tag r v.yard w.yard → w.book ≡ v.book
         → Follows start (h ++ turn (Join tag draw) (placed r) ∷ []) w
     follow_join tag draw (Ok p) (answer, yard) book =
-        follow (turn (Join tag draw) (Placed p)) (Ok p, refl, answer) book (rest_stays _ yard)
+        follow (turn (Join tag draw) (Ok (Placed p))) (Ok p, refl, answer) book (rest_stays _ yard)
         (sym (ap (λ (m : Meaning TrainTag). m.order) yard ∙ put_last v.yard.order tag)) (still_apart book)
     follow_join tag draw (Err f) (answer, yard) book = refused (Join tag draw) f (Err f, refl, answer) book yard
 
     follow_send : (turnout : ℕ) (r : Result (Option (TrainTag × ℕ × ℕ)) BookFault) → Sends turnout r v w → Follows start (h ++ turn (Send turnout) (sent r) ∷ []) w
     follow_send turnout (Ok (Some d)) (answer, book, yard) =
-        follow (turn (Send turnout) (Sent (Some d))) (Ok (Some d), refl, answer) book (rest_stays _ yard)
+        follow (turn (Send turnout) (Ok (Sent (Some d)))) (Ok (Some d), refl, answer) book (rest_stays _ yard)
         (append-nil v.yard.order ∙ at_front v.yard.order d.0 answer.1.0 ∙ ap (λ (m : Meaning TrainTag). d.0 ∷ m.order) (sym yard)) (still_apart book)
     follow_send turnout (Ok None) (answer, book, yard) =
-        follow (turn (Send turnout) (Sent None)) (Ok None, refl, answer) book (rest_stays _ yard) (stays yard) (still_apart book)
+        follow (turn (Send turnout) (Ok (Sent None))) (Ok None, refl, answer) book (rest_stays _ yard) (stays yard) (still_apart book)
     follow_send turnout (Err f) (answer, book, yard) = refused (Send turnout) f (Err f, refl, answer) book yard
 
     follow_decide : (turnout class : ℕ) (r : Result (Option (ℕ × ℕ)) BookFault) → Answers (approach turnout class) r v.book w.book → w.yard ≡ v.yard
         → Follows start (h ++ turn (Decide turnout class) (decided r) ∷ []) w
     follow_decide turnout class (Ok d) (answer, book) yard =
-        follow (turn (Decide turnout class) (Decided d)) (Ok d, refl, answer) book (rest_stays _ yard) (stays yard) (still_apart book)
+        follow (turn (Decide turnout class) (Ok (Decided d))) (Ok d, refl, answer) book (rest_stays _ yard) (stays yard) (still_apart book)
     follow_decide turnout class (Err f) (answer, book) yard = refused (Decide turnout class) f (Err f, refl, answer) book yard
 
-    named : (call : Call) (a b : Answer) → a ≡ b → Follows start (h ++ turn call b ∷ []) w → Follows start (h ++ turn call a ∷ []) w
-    named call a b e f = subst (λ (x : Answer). Follows start (h ++ turn call x ∷ []) w) (sym e) f
+    named : (call : Call) (a b : Result Answer BookFault) → a ≡ b → Follows start (h ++ turn call b ∷ []) w → Follows start (h ++ turn call a ∷ []) w
+    named call a b e f = subst (λ (x : Result Answer BookFault). Follows start (h ++ turn call x ∷ []) w) (sym e) f
 
     -- whatever the history that led here, it goes on lawfully
-    pub follow_turn : (call : Call) (a : Answer) → Carries call a v w → Follows start (h ++ turn call a ∷ []) w
+    pub follow_turn : (call : Call) (a : Result Answer BookFault) → Carries call a v w → Follows start (h ++ turn call a ∷ []) w
     unfolding Carries
     follow_turn (Add n rule place draw) a (r, e, adds, yard) = named (Add n rule place draw) a (placed r) e (follow_add n rule place draw r adds yard)
     follow_turn (Drop n) a (r, e, drops, yard) = named (Drop n) a (placed r) e (follow_drop n r drops yard)

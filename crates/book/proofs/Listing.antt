@@ -1,5 +1,5 @@
 -- The numbers that have a rule: one more place at a time, and at most as many as the table has records.
-use Rattle.std.proofs.Common.{◌≡◌, ℕ, zero, suc, ◌+◌, ◌<◌, ◌≤◌, Bool, true, false, cond, eqb, List, [], ◌∷◌, ◌++◌, length, take, drop, set, is_some, None, Option, sym, refl, ap, ◌∙◌, subst, ⊎_elim, append-nil, arith, eq-eqb, ne_eqb}
+use Rattle.std.proofs.Common.{◌≡◌, ℕ, zero, suc, ◌+◌, ◌<◌, ◌≤◌, Bool, true, false, cond, eqb, List, [], ◌∷◌, ◌++◌, length, take, drop, is_some, None, Option, sym, refl, ap, ◌∙◌, subst, ⊎_elim, append-nil, arith, eq-eqb, ne_eqb}
 use Rattle.std.proofs.lemmas.List.{get_or_past, length-append, take-append-drop, take_more}
 use Rattle.std.proofs.lemmas.Bool.{cases_eq}
 use Rattle.order.specs.Order.{At, Absent, Distinct}
@@ -84,55 +84,23 @@ at_most (suc n) rules xs apart none =
 pub recorded_most : (records : List (Option Rule)) (xs : List RuleNumber) → Distinct xs → length (ruled (recorded records) xs) ≤ length records
 recorded_most records xs apart = at_most (length records) (recorded records) xs apart (λ k le. get_or_past records k None le)
 
--- at most 256: of an order without a place, none at all
-pub listed_most : (records : List (Option Rule)) (xs : List RuleNumber) (p : ℕ) → length xs ≤ p → Distinct xs → (0 < p → length records ≡ 256)
-    → length (ruled (recorded records) xs) ≤ 256
-listed_most records [] p le apart size = omega arith
-listed_most records (k ∷ ks) p le apart size =
-    let most = recorded_most records (k ∷ ks) apart in
-    let all = size (omega arith) in
-    omega arith
+-- the place p with the key k is passed, where the numbers ns are listed
+module _ (records : List (Option Rule)) (xs : List RuleNumber) (ns : List ℕ) (p : ℕ) (k : RuleNumber)
+    (here : At xs p k) (lists : ns ≡ ruled (recorded records) (take p xs)) where
+  more : (b : Bool) → is_some (recorded records k.value) ≡ b → ruled (recorded records) (take (p + 1) xs) ≡ ns ++ cond b (k.value ∷ []) []
+  more b e =
+      ruled_more (recorded records) xs p k here ∙ ap (λ (c : Bool). ruled (recorded records) (take p xs) ++ cond c (k.value ∷ []) []) e
+      ∙ ap (λ (ms : List ℕ). ms ++ cond b (k.value ∷ []) []) (sym lists)
 
--- one more number written behind those written: the cells after it stay
-pub fill_more : (ns cells : List ℕ) (n : ℕ) → length ns < length cells
-    → set (ns ++ drop (length ns) cells) (length ns) n ≡ (ns ++ n ∷ []) ++ drop (length (ns ++ n ∷ [])) cells
-fill_more ns [] n lt = absurd (omega arith)
-fill_more [] (c ∷ cells) n lt = refl
-fill_more (m ∷ ns) (c ∷ cells) n lt = ap (λ (xs : List ℕ). m ∷ xs) (fill_more ns cells n (omega arith))
+  pub list_ruled : is_some (recorded records k.value) ≡ true → ns ++ k.value ∷ [] ≡ ruled (recorded records) (take (p + 1) xs)
+  list_ruled e = sym (more true e)
 
--- a place p with the key k is passed, where count numbers are listed and fill the first cells
-module _ (records : List (Option Rule)) (xs : List RuleNumber) (cells filled : List ℕ) (p count : ℕ) (k : RuleNumber)
-    (apart : Distinct xs) (size : length records ≡ 256) (here : At xs p k)
-    (counts : count ≡ length (ruled (recorded records) (take p xs)))
-    (fills : filled ≡ ruled (recorded records) (take p xs) ++ drop (length (ruled (recorded records) (take p xs))) cells) where
-  abbrev ns : List ℕ
-  ns = ruled (recorded records) (take p xs)
+  pub list_past : is_some (recorded records k.value) ≡ false → ns ≡ ruled (recorded records) (take (p + 1) xs)
+  list_past e = sym (more false e ∙ append-nil ns)
 
-  abbrev more : List ℕ
-  more = ruled (recorded records) (take (p + 1) xs)
-
-  pushed : is_some (recorded records k.value) ≡ true → more ≡ ns ++ k.value ∷ []
-  pushed e = ruled_more (recorded records) xs p k here ∙ ap (λ (b : Bool). ns ++ cond b (k.value ∷ []) []) e
-
-  same : is_some (recorded records k.value) ≡ false → more ≡ ns
-  same e = ruled_more (recorded records) xs p k here ∙ ap (λ (b : Bool). ns ++ cond b (k.value ∷ []) []) e ∙ append-nil ns
-
-  pub list_room : is_some (recorded records k.value) ≡ true → count < 256
-  list_room e =
+  pub list_room : Distinct xs → length records ≡ 256 → is_some (recorded records k.value) ≡ true → length ns < 256
+  list_room apart size e =
       let part = ruled_part (recorded records) xs (p + 1) in
       let most = recorded_most records xs apart in
-      let one = ap length (pushed e) ∙ length-append ns (k.value ∷ []) in
+      let one = ap length (more true e) ∙ length-append ns (k.value ∷ []) in
       omega arith
-
-  pub list_ruled : length cells ≡ 256 → is_some (recorded records k.value) ≡ true
-      → (count + 1 ≡ length more) × (set filled count k.value ≡ more ++ drop (length more) cells)
-  list_ruled room e =
-      let lt = list_room e in
-      let one = ap length (pushed e) ∙ length-append ns (k.value ∷ []) in (
-        omega arith,
-        ap (λ (m : ℕ). set filled m k.value) counts ∙ ap (λ (fs : List ℕ). set fs (length ns) k.value) fills
-            ∙ fill_more ns cells k.value (omega arith) ∙ ap (λ (ms : List ℕ). ms ++ drop (length ms) cells) (sym (pushed e)),
-      )
-
-  pub list_past : is_some (recorded records k.value) ≡ false → (count ≡ length more) × (filled ≡ more ++ drop (length more) cells)
-  list_past e = (counts ∙ ap length (sym (same e)), fills ∙ ap (λ (ms : List ℕ). ms ++ drop (length ms) cells) (sym (same e)))

@@ -15,6 +15,11 @@ pub taken_out : {A : Type 0} (v : Meaning A) (x : A) (r : Option ℕ) (w : Meani
 taken_out v x (Some i) w s r = (i, r.0, r.1)
 taken_out v x None w (i, at) r = absurd (r.0 i at)
 
+-- a removal that answered a place took out what stood there
+pub removed_at : {A : Type 0} (v : Meaning A) (x : A) (r : Option ℕ) (i : ℕ) (w : Meaning A)
+    → r ≡ Some i → RemovesKey v x r w → At v.order i x × (w ≡ ordered v (remove v.order i))
+removed_at v x r i w e removes = subst (λ (o : Option ℕ). RemovesKey v x o w) e removes
+
 pub removed_absent : {A : Type 0} (xs : List A) (i : ℕ) (x : A) → Distinct xs → At xs i x → Absent (remove xs i) x
 removed_absent xs i x apart at j here =
     let was = before_removed xs i at.0 j x here in

@@ -1,5 +1,5 @@
 -- What stands at a place, and what a table of records says.
-use Rattle.std.proofs.Common.{◌≡◌, ℕ, ◌+◌, ◌<◌, ◌≤◌, Bool, cond, ◌⊎◌, List, [], ◌∷◌, length, drop, set, replicate, None, Option, sym, ap, ◌∙◌, ⊎_elim, arith, eq-eqb, ne_eqb}
+use Rattle.std.proofs.Common.{◌≡◌, ℕ, ◌+◌, ◌<◌, ◌≤◌, Bool, false, cond, ◌⊎◌, List, [], ◌∷◌, length, drop, set, replicate, is_some, None, Option, sym, ap, ◌∙◌, ⊎_elim, arith, eq-eqb, ne_eqb}
 use mathlib.Core.Path.{fun_ext}
 use Rattle.std.proofs.lemmas.List.{get_or-set_same, get_or-set_other, get_or_default, get_or_past, get_or-replicate, length-replicate}
 use Rattle.std.proofs.lemmas.Bool.{cases_eq}
@@ -23,6 +23,10 @@ pub none_recorded : (size : ℕ) → recorded (replicate size None) ≡ (λ (_ :
 none_recorded size = fun_ext (λ n.
     ⊎_elim (λ lt. get_or-replicate size n None None lt)
     (λ le. get_or_past (replicate size None) n None (simp length-replicate le)) (below_or_past n size))
+
+-- a table of 256 records has no rule under a number above 255
+pub past_recorded : (records : List (Option Rule)) → length records ≡ 256 → (n : ℕ) → 255 < n → is_some (recorded records n) ≡ false
+past_recorded records size n high = ap is_some (get_or_past records n None (omega arith))
 
 pub recorded_set : (records : List (Option Rule)) (n : ℕ) (entry : Option Rule) → n < length records
     → recorded (set records n entry) ≡ with_rule n entry (recorded records)

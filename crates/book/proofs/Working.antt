@@ -1,48 +1,22 @@
 -- The worked case: nothing turns the two rules down, and what they decide.
-use Rattle.std.proofs.Common.{◌≡◌, ℕ, zero, suc, ◌<◌, ◌≤◌, List, [], ◌∷◌, length, Some, Ok, Err, Option, Result, sym, refl, ap, ◌∙◌, subst, ⊎_elim, arith}
+use Rattle.std.proofs.Common.{◌≡◌, ℕ, ◌<◌, List, [], ◌∷◌, length, Some, Ok, Err, Option, Result, sym, refl, ap, ◌∙◌, subst, ⊎_elim, arith}
 use Rattle.std.proofs.lemmas.List.Edits.{get_or-insert_at, length-insert, length-remove}
 use Rattle.std.specs.List.{insert, remove}
-use Rattle.order.specs.Order.{Admits, At, Absent}
+use Rattle.order.specs.Order.{At}
 use Rattle.order.specs.declared.fault.SetFault.TheVariants.{PastEnd}
 use Rattle.order.specs.declared.keys.RuleNumber.{RuleNumber}
 use Rattle.book.specs.declared.fault.BookFault.{BookFault}
 use Rattle.book.specs.declared.fault.BookFault.TheVariants.{Rules}
 use Rattle.book.specs.declared.rule.Rule.{Rule}
-use Rattle.book.specs.Books.{AddFault, Adds, Answers, Moves}
+use Rattle.book.specs.Books.{Adds, Answers, Moves}
 use Rattle.book.specs.Pages.{Decides, Pages, approach, key}
-use Rattle.book.specs.Worked.{Builds, Four, Nine, NineThenFour, Vacant}
+use Rattle.book.specs.Worked.{Four, MovesOnce, Nine, NineThenFour, Vacant}
 use Rattle.book.proofs.Deciding.{decides_once}
-use Rattle.book.proofs.Moving.{none_refuses}
-
--- a number that stands nowhere goes in where there is room
-never_turned : (v : Pages) (xs : List RuleNumber) (place n : ℕ) (f : BookFault)
-    → v.numbers.order ≡ xs → n ≤ 255 → Absent xs (key n) → place ≤ length xs → length xs < v.numbers.room → AddFault n place f v → ⊥
-never_turned v xs place n f is low absent within room reasons =
-    let len = ap length is in
-    let admits : Admits v.numbers place (key n) = (subst (λ (ys : List RuleNumber). Absent ys (key n)) (sym is) absent, omega arith, omega arith) in
-    ⊎_elim (λ high. omega (arith, high.1)) (λ set. none_refuses v.numbers place (key n) set.0 admits set.3) reasons
-
-absent_nowhere : (k : RuleNumber) → Absent [] k
-absent_nowhere k i (lt, is) = omega arith
-
-absent_nine : Absent (key 9 ∷ []) (key 4)
-absent_nine zero (lt, is) = let e : ◌≡◌ {A = ℕ} 9 4 = ap (λ (k : RuleNumber). k.value) is in omega arith
-absent_nine (suc i) (lt, is) = omega arith
 
 module _ (v v1 : Pages) (nine : Rule) (vacant : Vacant v) where
-  pub nine_goes_in : (f : BookFault) → Adds 9 nine 0 (Err f) v v1 → ⊥
-  nine_goes_in f (fault, _) = never_turned v [] 0 9 f vacant.0 (omega arith) (absent_nowhere (key 9)) (omega arith) (omega arith) fault
-
   module _ (p : ℕ) (first : Adds 9 nine 0 (Ok p) v v1) where
     one : v1.numbers.order ≡ key 9 ∷ []
     one = ap (λ (u : Pages). u.numbers.order) first.1 ∙ ap (λ (xs : List RuleNumber). insert xs 0 (key 9)) vacant.0
-
-    room : v1.numbers.room ≡ v.numbers.room
-    room = ap (λ (u : Pages). u.numbers.room) first.1
-
-    pub four_goes_in : (four : Rule) (v2 : Pages) (f : BookFault) → Adds 4 four 1 (Err f) v1 v2 → ⊥
-    four_goes_in four v2 f (fault, _) =
-        let r = room in never_turned v1 (key 9 ∷ []) 1 4 f one (omega arith) absent_nine (omega arith) (omega arith) fault
 
     pub both_in : (four : Rule) (v2 : Pages) (q : ℕ) → Adds 4 four 1 (Ok q) v1 v2 → Nine nine → Four four → NineThenFour v2
     both_in four v2 q second is-nine is-four = record {
@@ -54,11 +28,6 @@ module _ (v v1 : Pages) (nine : Rule) (vacant : Vacant v) where
       four_is = is-four;
       has_four = ap (λ (u : Pages). u.rules 4) second.1;
     }
-
--- a refusal that cannot be
-pub not_vacant : (r : Result (Unit {0}) BookFault) (v w : Pages) → (Vacant v → ⊥) → Builds r v w
-not_vacant (Ok u) v w no_room = λ vacant. absurd (no_room vacant)
-not_vacant (Err f) v w no_room = no_room
 
 -- with 9 before 4, turnout 12 and class F are decided by 9 and 7
 pub nine_decides : (v : Pages) → NineThenFour v → Decides v (approach 12 70) (Some (9, 7))
@@ -84,18 +53,18 @@ moved_at xs i place k lt within =
     let len = length_moved xs i place k lt within in
     (omega arith, get_or-insert_at (remove xs i) place k k (omega arith))
 
--- with two rules, 1 is a place to move to, and 2 is past the end
-pub case_moved : (v w : Pages) (f : BookFault) → NineThenFour v → Moves 9 1 (Err f) v w → ⊥
-case_moved v w f two (fault, _) =
-    let len = ap length two.in_order in
-    ⊎_elim (λ high. omega (arith, high.1))
-    (⊎_elim (λ gone. gone.2 0 (subst (λ (xs : List RuleNumber). At xs 0 (key 9)) (sym two.in_order) (omega arith, refl)))
-    (λ past. omega (arith, past.3))) fault
-
-pub case_refused : (v w x : Pages) (p : ℕ) (f : BookFault) → NineThenFour v → Moves 9 1 (Ok p) v w → Moves 9 2 (Err f) w x → f ≡ Rules PastEnd
-case_refused v w x p f two (answer, (i, at, left)) (fault, _) =
+-- of two rules 9 moved to place 1, and a move to place 2 is past the end
+pub case_refused : (v w x : Pages) (p : ℕ) (r : Result ℕ BookFault) → NineThenFour v → Moves 9 1 (Ok p) v w → Moves 9 2 r w x → MovesOnce (Ok (p, r))
+case_refused v w x p (Ok q) two (answer, (i, at, left)) (past, _) =
     let len = ap length two.in_order in
     let all = ap (λ (u : Pages). length u.numbers.order) left ∙ length_moved v.numbers.order i 1 (key 9) at.0 answer.2 in
+    absurd (omega (arith, past.2))
+case_refused v w x p (Err f) two (answer, (i, at, left)) (fault, _) =
+    let len = ap length two.in_order in
+    let all = ap (λ (u : Pages). length u.numbers.order) left ∙ length_moved v.numbers.order i 1 (key 9) at.0 answer.2 in
+    let past : f ≡ Rules PastEnd =
     ⊎_elim (λ high. absurd (omega (arith, high.1)))
     (⊎_elim (λ gone. absurd (gone.2 1 (subst (λ (u : Pages). At u.numbers.order 1 (key 9)) (sym left) (moved_at v.numbers.order i 1 (key 9) at.0 answer.2))))
-    (λ past. past.0)) fault
+    (λ past. past.0)) fault in
+    let first = answer.3 in
+    (cc, refl)

@@ -1,11 +1,9 @@
 -- What the calls of a book answer, and the pages that they leave. A refusal is one of its (fault, condition) pairs, in
 -- their sequence: each condition says that those before it do not hold.
 --     pages s b           the meaning of the book b over a set with the ghost members s
---     bound s b           the book but for what a last place remembers
---     Across s b c R      R holds of the pages of b and c, where b was sound
---     Lasts s b c         soundness lasts from b to c
+--     Across s b c R      R holds of the pages of b and c
 --     Kept s b c          c is b but for what a last place remembers
-use Rattle.std.specs.Prelude.{◌≡◌, ℕ, ◌<◌, ◌≤◌, ◌⊎◌, List, ◌++◌, length, drop, Some, None, Ok, Err, Option, Result}
+use Rattle.std.specs.Prelude.{◌≡◌, ℕ, ◌<◌, ◌≤◌, ◌⊎◌, List, length, Some, None, Ok, Err, Option, Result}
 use Rattle.std.specs.List.{insert, remove}
 use Rattle.order.specs.Order.{At, Absent, Stands, Admits, Refuses}
 use Rattle.order.specs.declared.fault.SetFault.{SetFault}
@@ -17,26 +15,17 @@ use Rattle.book.specs.declared.book.Book.{Book}
 use Rattle.book.specs.declared.fault.BookFault.{BookFault}
 use Rattle.book.specs.declared.fault.BookFault.TheVariants.{BadNumber, NoRule, BadTurnout, BadTrain, Rules}
 use Rattle.book.specs.declared.rule.Rule.{Rule}
-use Rattle.book.specs.Rules.{Letter}
+use Rattle.book.specs.Rules.{Letter, Turnout}
 use Rattle.book.specs.Pages.{Pages, Decides, key, listing, recorded, reordered, rewritten}
 
 abbrev pub pages : {S : Type 0} → Ghosts S RuleNumber → Book S → Pages
 pages s b = record { numbers = s.meaning b.set; rules = recorded b.rules }
 
-abbrev pub bound : {S : Type 0} → Ghosts S RuleNumber → Book S → Book S
-bound s b = record { set = s.body b.set; rules = b.rules }
-
 abbrev pub Across : {S : Type 0} → Ghosts S RuleNumber → Book S → Book S → (Pages → Pages → Type 0) → Type 0
-Across s b c R = s.sound b.set → R (pages s b) (pages s c)
-
-abbrev pub Lasts : {S : Type 0} → Ghosts S RuleNumber → Book S → Book S → Type 0
-Lasts s b c = s.sound b.set → s.sound c.set
+Across s b c R = R (pages s b) (pages s c)
 
 abbrev pub Kept : {S : Type 0} → Ghosts S RuleNumber → Book S → Book S → Type 0
-Kept s b c = bound s c ≡ bound s b
-
-abbrev pub Turnout : ℕ → Type 0
-Turnout turnout = (1 ≤ turnout) × (turnout ≤ 2000)
+Kept s b c = (s.body c.set ≡ s.body b.set) × (c.rules ≡ b.rules)
 
 -- a decision: its answer, and the pages stay
 abbrev pub DecideFault : Approach → BookFault → Type 0
@@ -99,9 +88,8 @@ Moves n place (Ok p) v w =
     × ((i : ℕ) × At v.numbers.order i (key n) × (w ≡ reordered v (insert (remove v.numbers.order i) place (key n))))
 Moves n place (Err f) v w = MoveAnswer n place (Err f) v × (w ≡ v)
 
--- a listing: the numbers that have a rule fill the first cells, the cells behind them stay, and the pages too
-pub record Lists (cells : List ℕ) (count : ℕ) (left : List ℕ) (v w : Pages) : Type 0 where
-  pub counts : count ≡ length (listing v)
-  pub most : length (listing v) ≤ 256
-  pub fills : left ≡ listing v ++ drop (length (listing v)) cells
+-- a listing: the numbers that have a rule, at most 256, and the pages stay
+pub record Lists (listed : List ℕ) (v w : Pages) : Type 0 where
+  pub lists : listed ≡ listing v
+  pub most : length listed ≤ 256
   pub same : w ≡ v

@@ -5,7 +5,7 @@
 use Rattle.std.specs.Prelude.{◌≡◌, ℕ, Bool, true, false, Some, None, Ok, Err, Option, Result}
 use Rattle.order.specs.declared.keys.TrainTag.{TrainTag}
 use Rattle.book.specs.declared.call.Answer.{Answer}
-use Rattle.book.specs.declared.call.Answer.TheVariants.{Placed, Decided, Sent, Refused}
+use Rattle.book.specs.declared.call.Answer.TheVariants.{Placed, Decided, Sent}
 use Rattle.book.specs.declared.call.Call.{Call}
 use Rattle.book.specs.declared.call.Call.TheVariants.{Add, Drop, Move, Join, Send, Decide}
 use Rattle.book.specs.declared.call.Turn.{Turn}
@@ -14,40 +14,38 @@ use Rattle.book.specs.Pages.{approach}
 use Rattle.book.specs.Books.{Adds, AddAnswer, AddFault, Answers, DecideAnswer, DecideFault, Drops, DropAnswer, DropFault, Moves, MoveAnswer, MoveFault}
 use Rattle.book.specs.Yards.{Board, Joins, JoinAnswer, JoinFault, Sends, SendAnswer, SendFault}
 
-abbrev pub turn : Call → Answer → Turn
+abbrev pub turn : Call → Result Answer BookFault → Turn
 turn call answer = record { call = call; answer = answer }
 
 abbrev pub called : Turn → Call
 called t = t.call
 
-abbrev pub accepted : Answer → Bool
-accepted (Placed p) = true
-accepted (Decided d) = true
-accepted (Sent d) = true
-accepted (Refused f) = false
+abbrev pub accepted : Result Answer BookFault → Bool
+accepted (Ok a) = true
+accepted (Err f) = false
 
 -- a refusal, a decision, and a send that lets no train go: what a panel holds stays
-abbrev pub still : Answer → Bool
-still (Placed p) = false
-still (Decided d) = true
-still (Sent (Some d)) = false
-still (Sent None) = true
-still (Refused f) = true
+abbrev pub still : Result Answer BookFault → Bool
+still (Ok (Placed p)) = false
+still (Ok (Decided d)) = true
+still (Ok (Sent (Some d))) = false
+still (Ok (Sent None)) = true
+still (Err f) = true
 
 -- the results of the calls, as answers
-abbrev pub placed : Result ℕ BookFault → Answer
-placed (Ok p) = Placed p
-placed (Err f) = Refused f
+abbrev pub placed : Result ℕ BookFault → Result Answer BookFault
+placed (Ok p) = Ok (Placed p)
+placed (Err f) = Err f
 
-abbrev pub decided : Result (Option (ℕ × ℕ)) BookFault → Answer
-decided (Ok d) = Decided d
-decided (Err f) = Refused f
+abbrev pub decided : Result (Option (ℕ × ℕ)) BookFault → Result Answer BookFault
+decided (Ok d) = Ok (Decided d)
+decided (Err f) = Err f
 
-abbrev pub sent : Result (Option (TrainTag × ℕ × ℕ)) BookFault → Answer
-sent (Ok d) = Sent d
-sent (Err f) = Refused f
+abbrev pub sent : Result (Option (TrainTag × ℕ × ℕ)) BookFault → Result Answer BookFault
+sent (Ok d) = Ok (Sent d)
+sent (Err f) = Err f
 
-abbrev pub Obeys : Board → Call → Answer → Type 0
+abbrev pub Obeys : Board → Call → Result Answer BookFault → Type 0
 Obeys v (Add n rule place draw) a = (r : Result ℕ BookFault) × (a ≡ placed r) × AddAnswer n place r v.book
 Obeys v (Drop n) a = (r : Result ℕ BookFault) × (a ≡ placed r) × DropAnswer n r v.book
 Obeys v (Move n place draw) a = (r : Result ℕ BookFault) × (a ≡ placed r) × MoveAnswer n place r v.book
@@ -55,7 +53,7 @@ Obeys v (Join tag draw) a = (r : Result ℕ BookFault) × (a ≡ placed r) × Jo
 Obeys v (Send turnout) a = (r : Result (Option (TrainTag × ℕ × ℕ)) BookFault) × (a ≡ sent r) × SendAnswer turnout r v
 Obeys v (Decide turnout class) a = (r : Result (Option (ℕ × ℕ)) BookFault) × (a ≡ decided r) × DecideAnswer (approach turnout class) r v.book
 
-unfoldable pub Carries : Call → Answer → Board → Board → Type 0
+unfoldable pub Carries : Call → Result Answer BookFault → Board → Board → Type 0
 Carries (Add n rule place draw) a v w =
     (r : Result ℕ BookFault) × (a ≡ placed r) × Adds n rule place r v.book w.book × (w.yard ≡ v.yard)
 Carries (Drop n) a v w = (r : Result ℕ BookFault) × (a ≡ placed r) × Drops n r v.book w.book × (w.yard ≡ v.yard)

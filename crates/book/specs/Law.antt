@@ -5,17 +5,17 @@
 --     RouteLaw start h v  the law, and v is what the history leads to
 --     Follows start h v   what each turn keeps up, so that the law holds of every history
 --     GoesOn ts v w       whatever lawful history led to v, it goes on with the turns ts, and leads to w
-use Rattle.std.specs.Prelude.{◌≡◌, ℕ, ◌+◌, ◌<◌, List, ◌++◌, length, take, Some, None, Option}
+use Rattle.std.specs.Prelude.{◌≡◌, ℕ, ◌+◌, ◌<◌, List, ◌++◌, length, take, Some, None, Ok, Err, Option, Result}
 use Rattle.order.specs.Order.{At, Distinct, ordered}
 use Rattle.order.specs.declared.keys.TrainTag.{TrainTag}
 use Rattle.book.specs.declared.call.Answer.{Answer}
-use Rattle.book.specs.declared.call.Answer.TheVariants.{Decided, Sent, Refused}
+use Rattle.book.specs.declared.call.Answer.TheVariants.{Decided, Sent}
 use Rattle.book.specs.declared.call.Call.{Call}
 use Rattle.book.specs.declared.call.Call.TheVariants.{Send, Decide}
 use Rattle.book.specs.declared.call.Turn.{Turn}
 use Rattle.book.specs.declared.fault.BookFault.{BookFault}
 use Rattle.book.specs.Pages.{Decides, approach}
-use Rattle.book.specs.Books.{Turnout}
+use Rattle.book.specs.Rules.{Turnout}
 use Rattle.book.specs.Yards.{Board, Departs}
 use Rattle.book.specs.Calls.{Faulted, Obeys, turn}
 use Rattle.book.specs.Runs.{built, joined, left, reached, waiting}
@@ -34,19 +34,19 @@ SameFront h j i = (length (left (take j h)) < length (joined (take j h))) × (le
 -- where a train left at turn i, each earlier send to a turnout, the train in front being the same, found it no rule
 abbrev pub FirstSend : Board → List Turn → Type 0
 FirstSend start h =
-    (i j t u : ℕ) (d : TrainTag × ℕ × ℕ) (a : Answer)
-    → At h i (turn (Send t) (Sent (Some d))) → j < i → At h j (turn (Send u) a) → Turnout u → SameFront h j i
+    (i j t u : ℕ) (d : TrainTag × ℕ × ℕ) (a : Result Answer BookFault)
+    → At h i (turn (Send t) (Ok (Sent (Some d)))) → j < i → At h j (turn (Send u) a) → Turnout u → SameFront h j i
     → Decides (before start h j).book (approach u d.0.class) None
 
 pub record RouteLaw (start : Board) (h : List Turn) (v : Board) : Type 0 where
   -- a turnout is decided by the first matching rule of the order that the calls before built, and by none exactly when none matches
-  pub decided_first : (i turnout class : ℕ) (d : Option (ℕ × ℕ)) → At h i (turn (Decide turnout class) (Decided d))
+  pub decided_first : (i turnout class : ℕ) (d : Option (ℕ × ℕ)) → At h i (turn (Decide turnout class) (Ok (Decided d)))
       → Decides (before start h i).book (approach turnout class) d
   -- so is the turnout of a send, for the train in front, which leaves with a rule and stays without
-  pub sent_first : (i turnout : ℕ) (d : Option (TrainTag × ℕ × ℕ)) → At h i (turn (Send turnout) (Sent d)) → Departs turnout d (before start h i)
+  pub sent_first : (i turnout : ℕ) (d : Option (TrainTag × ℕ × ℕ)) → At h i (turn (Send turnout) (Ok (Sent d))) → Departs turnout d (before start h i)
   -- a call is refused where its refusal's condition holds, and it changes nothing
-  pub refused_so : (i : ℕ) (call : Call) (f : BookFault) → At h i (turn call (Refused f)) → Faulted call f (before start h i)
-  pub refused_same : (i : ℕ) (call : Call) (f : BookFault) → At h i (turn call (Refused f)) → before start h (i + 1) ≡ before start h i
+  pub refused_so : (i : ℕ) (call : Call) (f : BookFault) → At h i (turn call (Err f)) → Faulted call f (before start h i)
+  pub refused_same : (i : ℕ) (call : Call) (f : BookFault) → At h i (turn call (Err f)) → before start h (i + 1) ≡ before start h i
   -- every turn has its defined answer, a refusal exactly under its condition
   pub obeyed : Obeyed start h
   -- those that joined, in their order, are those that left and then those that wait

@@ -1,4 +1,5 @@
 -- What a lawful rule is, and which approaches it covers.
+--     Turnout t                 t is the number of a turnout
 --     Letter c                  c is a letter from A to Z
 --     Holds set c               a set of letters has the class c
 --     ClassSet classes set      the set of the letters listed, or none where another byte is listed
@@ -10,6 +11,9 @@ use Rattle.book.specs.declared.approach.Approach.{Approach}
 use Rattle.book.specs.declared.fault.BookFault.{BookFault}
 use Rattle.book.specs.declared.fault.BookFault.TheVariants.{BadRule}
 use Rattle.book.specs.declared.rule.Rule.{Rule}
+
+abbrev pub Turnout : ℕ → Type 0
+Turnout turnout = (1 ≤ turnout) × (turnout ≤ 2000)
 
 abbrev pub Letter : ℕ → Type 0
 Letter class = (65 ≤ class) × (class ≤ 90)

@@ -4,16 +4,17 @@
 --     joined h, left h    the trains in the order in which they joined, and in the order in which they left
 --     waiting start h     of those that joined, all but as many of the first as have left
 --     reached start h     what the history leads to, from a start with two empty orders
-use Rattle.std.specs.Prelude.{ℕ, Bool, cond, List, [], ◌∷◌, ◌++◌, length, drop, Some, None, fold, ◌==◌}
+use Rattle.std.specs.Prelude.{ℕ, Bool, cond, List, [], ◌∷◌, ◌++◌, length, drop, Some, None, Ok, Err, Result, fold, ◌==◌}
 use Rattle.std.specs.List.{insert}
 use Rattle.order.specs.Order.{Meaning, ordered}
 use Rattle.order.specs.declared.keys.RuleNumber.{RuleNumber}
 use Rattle.order.specs.declared.keys.TrainTag.{TrainTag}
 use Rattle.book.specs.declared.call.Answer.{Answer}
-use Rattle.book.specs.declared.call.Answer.TheVariants.{Placed, Decided, Sent, Refused}
+use Rattle.book.specs.declared.call.Answer.TheVariants.{Placed, Decided, Sent}
 use Rattle.book.specs.declared.call.Call.{Call}
 use Rattle.book.specs.declared.call.Call.TheVariants.{Add, Drop, Move, Join, Send, Decide}
 use Rattle.book.specs.declared.call.Turn.{Turn}
+use Rattle.book.specs.declared.fault.BookFault.{BookFault}
 use Rattle.book.specs.Pages.{Pages, key, reordered, rewritten}
 use Rattle.book.specs.Books.{added}
 use Rattle.book.specs.Yards.{Board}
@@ -60,12 +61,12 @@ abbrev pub joined : List Turn → List TrainTag
 joined h = gathered joining h
 
 -- a send that found a rule gives its train
-abbrev pub leaves : Answer → List TrainTag
-leaves (Placed p) = []
-leaves (Decided d) = []
-leaves (Sent (Some d)) = d.0 ∷ []
-leaves (Sent None) = []
-leaves (Refused f) = []
+abbrev pub leaves : Result Answer BookFault → List TrainTag
+leaves (Ok (Placed p)) = []
+leaves (Ok (Decided d)) = []
+leaves (Ok (Sent (Some d))) = d.0 ∷ []
+leaves (Ok (Sent None)) = []
+leaves (Err f) = []
 
 abbrev pub leaving : Turn → List TrainTag
 leaving t = leaves t.answer

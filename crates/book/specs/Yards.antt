@@ -1,13 +1,10 @@
 -- The meaning of a panel, what join and send answer, and what they leave.
 --     board r y p         the meaning of the panel p, over sets with the ghost members r and y
---     Sound r y p         both sets of the panel are sound
---     frame r y p         the panel but for what last places remember
---     OverSet s b c R     R holds of the meanings of the sets b and c, where b was sound
---     Over r y p q R      R holds of the boards of the panels p and q, where p was sound
---     Remains r y p q     soundness remains from p to q
+--     OverSet s b c R     R holds of the meanings of the sets b and c
+--     Over r y p q R      R holds of the boards of the panels p and q
 --     Unmoved r y p q     q is p but for what last places remember
 --     opened m n          a panel with no rules yet, over sets that mean m and n; opens r y a b, over the sets a and b
---     Empty s a           the order of the set a is empty; Fresh s a, and it is sound
+--     Empty s a           the order of the set a is empty
 use Rattle.std.specs.Prelude.{◌≡◌, ℕ, ◌≤◌, ◌⊎◌, [], length, Some, None, Ok, Err, Option, Result}
 use Rattle.std.specs.List.{insert, remove}
 use Rattle.order.specs.Order.{Meaning, ordered, At, Admits, Refuses}
@@ -20,7 +17,8 @@ use Rattle.book.specs.declared.fault.BookFault.TheVariants.{BadTurnout, BadTrain
 use Rattle.book.specs.declared.fault.YardFault.{YardFault}
 use Rattle.book.specs.declared.panel.Panel.{Panel}
 use Rattle.book.specs.Pages.{Pages, Decides, approach}
-use Rattle.book.specs.Books.{Turnout, pages, bound}
+use Rattle.book.specs.Rules.{Turnout}
+use Rattle.book.specs.Books.{Kept, pages}
 
 pub record Board : Type 0 where
   pub book : Pages
@@ -29,23 +27,14 @@ pub record Board : Type 0 where
 abbrev pub board : {R Y : Type 0} → Ghosts R RuleNumber → Ghosts Y TrainTag → Panel R Y → Board
 board r y p = record { book = pages r p.book; yard = y.meaning p.yard }
 
-abbrev pub Sound : {R Y : Type 0} → Ghosts R RuleNumber → Ghosts Y TrainTag → Panel R Y → Type 0
-Sound r y p = r.sound p.book.set × y.sound p.yard
-
-abbrev pub frame : {R Y : Type 0} → Ghosts R RuleNumber → Ghosts Y TrainTag → Panel R Y → Panel R Y
-frame r y p = record { book = bound r p.book; yard = y.body p.yard }
-
 abbrev pub OverSet : {S : Type 0} → Ghosts S TrainTag → S → S → (Meaning TrainTag → Meaning TrainTag → Type 0) → Type 0
-OverSet s b c R = s.sound b → R (s.meaning b) (s.meaning c)
+OverSet s b c R = R (s.meaning b) (s.meaning c)
 
 abbrev pub Over : {R Y : Type 0} → Ghosts R RuleNumber → Ghosts Y TrainTag → Panel R Y → Panel R Y → (Board → Board → Type 0) → Type 0
-Over r y p q R = Sound r y p → R (board r y p) (board r y q)
-
-abbrev pub Remains : {R Y : Type 0} → Ghosts R RuleNumber → Ghosts Y TrainTag → Panel R Y → Panel R Y → Type 0
-Remains r y p q = Sound r y p → Sound r y q
+Over r y p q R = R (board r y p) (board r y q)
 
 abbrev pub Unmoved : {R Y : Type 0} → Ghosts R RuleNumber → Ghosts Y TrainTag → Panel R Y → Panel R Y → Type 0
-Unmoved r y p q = frame r y q ≡ frame r y p
+Unmoved r y p q = Kept r p.book q.book × (y.body q.yard ≡ y.body p.yard)
 
 abbrev pub opened : Meaning RuleNumber → Meaning TrainTag → Board
 opened rules yard = record { book = record { numbers = rules; rules = λ (_ : ℕ). None }; yard = yard }
@@ -55,9 +44,6 @@ opens r y rules yard = opened (r.meaning rules) (y.meaning yard)
 
 abbrev pub Empty : {S K : Type 0} → Ghosts S K → S → Type 0
 Empty s set = (s.meaning set).order ≡ []
-
-abbrev pub Fresh : {S K : Type 0} → Ghosts S K → S → Type 0
-Fresh s set = s.sound set × Empty s set
 
 -- a push into the yard's set
 abbrev pub Pushes : TrainTag → Result ℕ YardFault → Meaning TrainTag → Meaning TrainTag → Type 0

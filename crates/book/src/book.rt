@@ -11,16 +11,17 @@ pub mod change;
 pub mod decide;
 pub mod list;
 
+// The rules lie in an array, which is a map of the numbers 0 to 255 and needs no heap.
 #[derive(Drop)]
 pub struct Book<S> {
     set: S,
     rules: [Option<Rule>; 256],
+    ghost whole: { length rules ≡ 256 },
 }
 
 // The rule recorded under a number, if it has one.
 fn rule_of(rules: &[Option<Rule>; 256], number: RuleNumber) -> Option<Rule>
-    ensures finds { result ≡ recorded rules.now number.value }
-    ensures size { length rules.now ≡ 256 }
+    ensures { result ≡ recorded rules.now number.value }
 {
     if number.value > 255 {
         return None;

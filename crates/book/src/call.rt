@@ -3,8 +3,8 @@ use crate::fault::BookFault;
 use crate::rule::Rule;
 use order::keys::TrainTag;
 
-// A call on a panel.
-#[derive(Clone, Copy)]
+// A call on a panel: a value and no closure, since the law of routes speaks of it.
+#[derive(Clone, Copy, Debug, PartialEq, Eq)]
 pub enum Call {
     Add {
         number: u16,
@@ -33,18 +33,17 @@ pub enum Call {
     },
 }
 
-// What a panel answered.
-#[derive(Clone, Copy)]
+// What a panel answers to a call that it carries out; number and route are a pair, as the rules have them.
+#[derive(Clone, Copy, Debug, PartialEq, Eq)]
 pub enum Answer {
     Placed(u32),
     Decided(Option<(u16, u8)>),
     Sent(Option<(TrainTag, u16, u8)>),
-    Refused(BookFault),
 }
 
-// A call, and the cell for its answer.
-#[derive(Clone, Copy)]
+// A call, and the cell for its answer or the fault that it is refused with.
+#[derive(Clone, Copy, Debug, PartialEq, Eq)]
 pub struct Turn {
     pub call: Call,
-    pub answer: Answer,
+    pub answer: Result<Answer, BookFault>,
 }

@@ -19,7 +19,7 @@ pub enum BookFault {
 }
 
 impl BookFault {
-    // The number under which it is reported.
+    // The number under which it is reported: the rules give each fault its own, so each type has its table.
     pub fn number(&self) -> u8
         ensures { result ≡ fault_number self.now }
     {

@@ -1,7 +1,7 @@
 // The worked case of the rules, proved over every empty ordered set with room for two: rule 9 stands before rule 4.
 ghost use Rattle.std.specs.Prelude.{◌≡◌, Some, Ok};
-ghost use Rattle.book.specs.Books.{Across, Lasts};
-ghost use Rattle.book.specs.Worked.{Both, Builds, Vacant};
+ghost use Rattle.book.specs.Books.{Across};
+ghost use Rattle.book.specs.Worked.{Both, Builds, MovesOnce, Vacant};
 
 use crate::book::Book;
 use crate::fault::BookFault;
@@ -21,8 +21,7 @@ fn both_rules() -> Result<(Rule, Rule), BookFault>
 
 // Puts rule 9 into an empty book, and rule 4 behind it.
 fn nine_then_four<S: OrderedSet<RuleNumber>>(book: &mut Book<S>) -> Result<(), BookFault>
-    ensures builds { Across S.OrderedSet book.old book.new (Builds result) }
-    ensures sound { Lasts S.OrderedSet book.old book.new }
+    ensures { Across S.OrderedSet book.old book.new (Builds result) }
 {
     let (nine, four) = both_rules()?;
     book.add(9, nine, 0, 0)?;
@@ -40,14 +39,13 @@ pub fn decided<S: OrderedSet<RuleNumber>>(
     book.decide(12, b'F')
 }
 
-// With two rules a move to place 1 is accepted, and one to place 2 is refused under number 3.
-pub fn moved<S: OrderedSet<RuleNumber>>(book: &mut Book<S>) -> Result<(u32, u8), BookFault>
-    ensures { Across S.OrderedSet book.old book.new (λ v _. Vacant v → result ≡ Ok (1, 3)) }
+// With two rules a move to place 1 is accepted, and one to place 2 is refused by the set of the rules, under number 3.
+pub fn moved<S: OrderedSet<RuleNumber>>(
+    book: &mut Book<S>,
+) -> Result<(u32, Result<u32, BookFault>), BookFault>
+    ensures { Across S.OrderedSet book.old book.new (λ v _. Vacant v → MovesOnce result) }
 {
     nine_then_four(book)?;
     let place = book.move_rule(9, 1, 0)?;
-    match book.move_rule(9, 2, 0) {
-        Ok(_) => Ok((place, 0)),
-        Err(fault) => Ok((place, fault.number())),
-    }
+    Ok((place, book.move_rule(9, 2, 0)))
 }

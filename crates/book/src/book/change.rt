@@ -1,6 +1,6 @@
 // The calls that change a book: add, drop and move.
 ghost use Rattle.std.specs.Prelude.{◌≡◌, false, is_ok};
-ghost use Rattle.book.specs.Books.{Across, Adds, Drops, Kept, Lasts, Moves};
+ghost use Rattle.book.specs.Books.{Across, Adds, Drops, Kept, Moves};
 
 use crate::book::Book;
 use crate::fault::BookFault;
@@ -14,7 +14,6 @@ impl<S: OrderedSet<RuleNumber>> Book<S> {
     // Puts a rule in at a place; answers the place.
     pub fn add(&mut self, number: u16, rule: Rule, place: u32, draw: u32) -> Result<u32, BookFault>
         ensures adds { Across S.OrderedSet self.old self.new (Adds number rule place result) }
-        ensures sound { Lasts S.OrderedSet self.old self.new }
         ensures kept { is_ok result ≡ false → Kept S.OrderedSet self.old self.new }
     {
         if number > 255 {
@@ -29,26 +28,23 @@ impl<S: OrderedSet<RuleNumber>> Book<S> {
     // Takes a rule out; answers its old place.
     pub fn drop_rule(&mut self, number: u16) -> Result<u32, BookFault>
         ensures drops { Across S.OrderedSet self.old self.new (Drops number result) }
-        ensures sound { Lasts S.OrderedSet self.old self.new }
         ensures kept { is_ok result ≡ false → Kept S.OrderedSet self.old self.new }
     {
         if number > 255 {
             return Err(BookFault::BadNumber);
         }
-        match self.set.remove_key(RuleNumber { value: number }) {
-            Some(place) => {
-                self.rules[number as usize] = None;
-                Ok(place)
-            }
-            None => Err(BookFault::NoRule),
-        }
+        let place = self
+            .set
+            .remove_key(RuleNumber { value: number })
+            .ok_or(BookFault::NoRule)?;
+        self.rules[number as usize] = None;
+        Ok(place)
     }
 
     // Takes a rule out and puts it in at a place of what remains; answers the place.
     pub fn move_rule(&mut self, number: u16, place: u32, draw: u32) -> Result<u32, BookFault>
         ensures moves { Across S.OrderedSet self.old self.new (Moves number place result) }
-        ensures sound { Lasts S.OrderedSet self.old self.new }
-        ensures kept { S.sound self.old.set → is_ok result ≡ false → Kept S.OrderedSet self.old self.new }
+        ensures kept { is_ok result ≡ false → Kept S.OrderedSet self.old self.new }
     {
         if number > 255 {
             return Err(BookFault::BadNumber);

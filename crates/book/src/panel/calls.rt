@@ -1,14 +1,15 @@
 // The calls of a panel: those of its book, and join and send.
-ghost use Rattle.std.specs.Prelude.{◌≡◌, ◌≤◌, true, false, is_ok};
+ghost use Rattle.std.specs.Prelude.{◌≡◌, true, false, is_ok};
 ghost use Rattle.book.specs.Pages.{approach};
-ghost use Rattle.book.specs.Books.{Across, Adds, Answers, Drops, Kept, Lasts, Lists, Moves};
+ghost use Rattle.book.specs.Books.{Across, Adds, Answers, Drops, Kept, Lists, Moves};
 ghost use Rattle.book.specs.Calls.{sent, still};
-ghost use Rattle.book.specs.Yards.{Joins, Over, OverSet, Pushes, Remains, Sends, Unmoved};
+ghost use Rattle.book.specs.Yards.{Joins, Over, OverSet, Pushes, Sends, Unmoved};
 
-use crate::approach::Approach;
+use crate::approach::{Approach, is_turnout};
 use crate::fault::{BookFault, YardFault};
 use crate::panel::Panel;
 use crate::rule::Rule;
+use arrayvec::ArrayVec;
 use layers::above::push;
 use order::key::Key;
 use order::keys::{RuleNumber, TrainTag};
@@ -21,7 +22,6 @@ fn push_train<Y: OrderedSet<TrainTag>>(
     draw: u32,
 ) -> Result<u32, YardFault>
     ensures pushes { OverSet Y.OrderedSet yard.old yard.new (Pushes tag result) }
-    ensures sound { Y.sound yard.old → Y.sound yard.new }
     ensures kept { is_ok result ≡ false → Y.body yard.new ≡ Y.body yard.old }
 {
     let place = yard.length();
@@ -29,11 +29,11 @@ fn push_train<Y: OrderedSet<TrainTag>>(
     Ok(place)
 }
 
+// The calls of the book are handed on one by one: lent out whole, the book would not promise that the yard stays.
 impl<R: OrderedSet<RuleNumber>, Y: OrderedSet<TrainTag>> Panel<R, Y> {
     // Puts a rule in at a place; answers the place.
     pub fn add(&mut self, number: u16, rule: Rule, place: u32, draw: u32) -> Result<u32, BookFault>
         ensures adds { Across R.OrderedSet self.old.book self.new.book (Adds number rule place result) }
-        ensures sound { Lasts R.OrderedSet self.old.book self.new.book }
         ensures kept { is_ok result ≡ false → Kept R.OrderedSet self.old.book self.new.book }
         ensures yard { self.new.yard ≡ self.old.yard }
     {
@@ -43,7 +43,6 @@ impl<R: OrderedSet<RuleNumber>, Y: OrderedSet<TrainTag>> Panel<R, Y> {
     // Takes a rule out; answers its old place.
     pub fn drop_rule(&mut self, number: u16) -> Result<u32, BookFault>
         ensures drops { Across R.OrderedSet self.old.book self.new.book (Drops number result) }
-        ensures sound { Lasts R.OrderedSet self.old.book self.new.book }
         ensures kept { is_ok result ≡ false → Kept R.OrderedSet self.old.book self.new.book }
         ensures yard { self.new.yard ≡ self.old.yard }
     {
@@ -53,8 +52,7 @@ impl<R: OrderedSet<RuleNumber>, Y: OrderedSet<TrainTag>> Panel<R, Y> {
     // Takes a rule out and puts it in at a place of what remains; answers the place.
     pub fn move_rule(&mut self, number: u16, place: u32, draw: u32) -> Result<u32, BookFault>
         ensures moves { Across R.OrderedSet self.old.book self.new.book (Moves number place result) }
-        ensures sound { Lasts R.OrderedSet self.old.book self.new.book }
-        ensures kept { R.OrderedSet.sound self.old.book.set → is_ok result ≡ false → Kept R.OrderedSet self.old.book self.new.book }
+        ensures kept { is_ok result ≡ false → Kept R.OrderedSet self.old.book self.new.book }
         ensures yard { self.new.yard ≡ self.old.yard }
     {
         self.book.move_rule(number, place, draw)
@@ -63,32 +61,28 @@ impl<R: OrderedSet<RuleNumber>, Y: OrderedSet<TrainTag>> Panel<R, Y> {
     // The number and route of the matching rule of lowest place, or none.
     pub fn decide(&mut self, turnout: u16, class: u8) -> Result<Option<(u16, u8)>, BookFault>
         ensures decides { Across R.OrderedSet self.old.book self.new.book (Answers (approach turnout class) result) }
-        ensures sound { Lasts R.OrderedSet self.old.book self.new.book }
         ensures kept { Kept R.OrderedSet self.old.book self.new.book }
         ensures yard { self.new.yard ≡ self.old.yard }
     {
         self.book.decide(turnout, class)
     }
 
-    // Writes the numbers that have a rule, in order, to the first cells; answers how many.
-    pub fn listed(&mut self, numbers: &mut [u16; 256]) -> usize
-        ensures lists { Across R.OrderedSet self.old.book self.new.book (Lists numbers.old result numbers.new) }
-        ensures within { result ≤ 256 }
-        ensures sound { Lasts R.OrderedSet self.old.book self.new.book }
+    // The numbers that have a rule, in order.
+    pub fn listed(&mut self) -> ArrayVec<u16, 256>
+        ensures lists { Across R.OrderedSet self.old.book self.new.book (Lists result.items) }
         ensures kept { Kept R.OrderedSet self.old.book self.new.book }
         ensures yard { self.new.yard ≡ self.old.yard }
     {
-        self.book.listed(numbers)
+        self.book.listed()
     }
 
     // A train takes the last place in the yard; answers the place.
     pub fn join(&mut self, tag: TrainTag, draw: u32) -> Result<u32, BookFault>
         ensures joins { OverSet Y.OrderedSet self.old.yard self.new.yard (Joins tag result) }
-        ensures sound { Y.OrderedSet.sound self.old.yard → Y.OrderedSet.sound self.new.yard }
         ensures kept { is_ok result ≡ false → Y.OrderedSet.body self.new.yard ≡ Y.OrderedSet.body self.old.yard }
         ensures book { self.new.book ≡ self.old.book }
     {
-        if tag.class < b'A' || tag.class > b'Z' || tag.number > 9999 {
+        if !tag.class.is_ascii_uppercase() || tag.number > 9999 {
             return Err(BookFault::BadTrain);
         }
         let place = push_train(&mut self.yard, tag, draw)?;
@@ -98,24 +92,20 @@ impl<R: OrderedSet<RuleNumber>, Y: OrderedSet<TrainTag>> Panel<R, Y> {
     // The front train leaves by the rule that decides for it, or stays.
     pub fn send(&mut self, turnout: u16) -> Result<Option<(TrainTag, u16, u8)>, BookFault>
         ensures sends { Over R.OrderedSet Y.OrderedSet self.old self.new (Sends turnout result) }
-        ensures sound { Remains R.OrderedSet Y.OrderedSet self.old self.new }
         ensures kept { still (sent result) ≡ true → Unmoved R.OrderedSet Y.OrderedSet self.old self.new }
     {
-        if turnout < 1 || turnout > 2000 {
+        if !is_turnout(turnout) {
             return Err(BookFault::BadTurnout);
         }
-        let Some(tag) = self.yard.key_of(0) else {
-            return Err(BookFault::NoTrain);
-        };
-        match self.book.first_match(Approach {
+        let tag = self.yard.key_of(0).ok_or(BookFault::NoTrain)?;
+        let asked = Approach {
             turnout,
             class: tag.class,
-        }) {
-            Some((number, route)) => {
-                let _ = self.yard.remove_index(0);
-                Ok(Some((tag, number, route)))
-            }
-            None => Ok(None),
-        }
+        };
+        let Some((number, route)) = self.book.first_match(asked) else {
+            return Ok(None);
+        };
+        let _ = self.yard.remove_index(0);
+        Ok(Some((tag, number, route)))
     }
 }

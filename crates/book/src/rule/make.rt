@@ -2,7 +2,7 @@
 ghost use Rattle.std.specs.Prelude.{◌≡◌, ◌-◌, ◌<◌, true, false};
 ghost use Rattle.book.specs.Rules.{Covers, Makes, ClassSet};
 
-use crate::approach::Approach;
+use crate::approach::{Approach, is_turnout};
 use crate::fault::BookFault;
 use crate::rule::Rule;
 
@@ -12,7 +12,7 @@ fn class_set(classes: &[u8]) -> Option<[bool; 26]>
 {
     let mut set = [false; 26];
     for class in classes {
-        if *class < b'A' || *class > b'Z' {
+        if !class.is_ascii_uppercase() {
             return None;
         }
         set[(*class - b'A') as usize] = true;
@@ -28,9 +28,9 @@ impl Rule {
         let Some(set) = class_set(classes) else {
             return Err(BookFault::BadRule);
         };
-        if first < 1
+        if !is_turnout(first)
+            || !is_turnout(last)
             || first > last
-            || last > 2000
             || classes.is_empty()
             || route < 1
             || route > 255
@@ -51,7 +51,7 @@ impl Rule {
         ensures no { Covers self.now approach → result ≡ true }
     {
         let Approach { turnout, class } = approach;
-        if class < b'A' || class > b'Z' || turnout < self.first || turnout > self.last {
+        if !class.is_ascii_uppercase() || turnout < self.first || turnout > self.last {
             return false;
         }
         self.classes[(class - b'A') as usize]

@@ -1,93 +1,52 @@
--- Each place is passed, and its number written where it has a rule: there is always a cell for it.
-use Rattle.std.proofs.Common.{◌≡◌, ℕ, ◌+◌, true, false, List, ◌++◌, length, take, drop, is_some, sym, refl, ap, ◌∙◌, subst, arith}
-use Rattle.std.proofs.lemmas.List.{length-set, take_all}
+-- Each place is passed, and its number listed where it has a rule: there is always room for it.
+use Rattle.std.proofs.Common.{◌≡◌, length, true, false, is_some, ap, ◌∙◌, subst, arith}
+use Rattle.std.proofs.lemmas.List.{take_all}
 use Rattle.order.specs.Order.{At, Meaning}
 use Rattle.order.specs.declared.keys.RuleNumber.{RuleNumber}
 use Rattle.book.specs.Pages.{recorded, ruled}
-use Rattle.book.proofs.Listing.{list_past, list_room, list_ruled, listed_most}
+use Rattle.book.proofs.Listing.{list_past, list_room, list_ruled, recorded_most}
 use Rattle.book.proofs.Places.{same_pages}
 use Rattle.book.proofs.book.Book.listed.Goals as goal
-use Rattle.book.proofs.book.Book.listed.Goals.{in-Some+then-ruled+then-count-lt256, in-Some+else-ruled, in_default, else-ruled-via-then-ruled+else-count-lt256, else-ruled-via-else-ruled}
+use Rattle.book.proofs.book.Book.listed.Goals.{in-Some+then-is_some, in-Some+else-is_some, in_default}
 
-pub loop-place-init : goal.loop-place-init
-loop-place-init g c = (omega arith, c.told-numbers, refl, refl, λ h. (h, refl, refl, refl, λ lt. absurd (omega arith)))
+pub push-requires : goal.push-requires
+push-requires g c =
+    let past = c.loop-place.invariant in
+    let now = c.args.self.now in
+    let here = subst (λ (v : Meaning RuleNumber). At v.order c.loop-place.place c.in-Some.number) past.same c.in-Some.ensures.gives.0 in
+    let has : is_some (recorded now.rules c.in-Some.number.value) ≡ true = cc in
+    (omega arith, list_room _ _ _ c.loop-place.place _ here past.lists (g.met.S.OrderedSet.lawful now.set).apart now.whole has)
 
 pub loop-place-preserved : goal.loop-place-preserved
 loop-place-preserved g c =
-    let inv = c.loop-place.invariant in
+    let past = c.loop-place.invariant in
     let p = c.loop-place.place in
-    let v = g.S.OrderedSet.meaning c.args.self.now.set in
-    let records = c.args.self.now.rules in
-    let cells = c.args.numbers.now in
-    let kept : g.S.OrderedSet.body c.key_of.new.self ≡ g.S.OrderedSet.body c.args.self.now.set = cc in
-    let here : (n : RuleNumber) → g.S.OrderedSet.meaning c.loop-place.self.set ≡ v → At (g.S.OrderedSet.meaning c.loop-place.self.set).order p n → At v.order p n =
-    λ n same. subst (λ (u : Meaning RuleNumber). At u.order p n) same in
-    elim c.match-key_of.branch [
-      | in-Some+then-ruled+then-count-lt256 w ↦
-          let size : length records ≡ 256 = ap length (sym inv.3) ∙ w.rule_of.ensures.size in
-          let has : is_some (recorded records w.in-Some.number.value) ≡ true = cc in (
-            omega arith,
-            ap length w.numbers-is ∙ length-set _ _ _ ∙ inv.1,
-            kept,
-            inv.3,
-            λ h.
-                let past = inv.4 h in
-                let more = list_ruled records v.order cells c.loop-place.numbers p c.loop-place.count w.in-Some.number
-                (c.length-place-end.ensures.lawful h).apart size (here _ past.1 (w.in-Some.ensures.gives past.0).0) past.2 past.3 c.told-numbers has in
-                (c.key_of.ensures.sound past.0, (c.key_of.ensures.gives past.0).1 ∙ past.1, w.count-is ∙ more.0, w.numbers-is ∙ more.1, λ _. size),
-          )
-      | in-Some+else-ruled w ↦
-          let size : length records ≡ 256 = ap length (sym inv.3) ∙ w.rule_of.ensures.size in (
-            omega arith,
-            ap length w.numbers-is ∙ inv.1,
-            kept,
-            inv.3,
-            λ h.
-                let past = inv.4 h in
-                let apart = (c.length-place-end.ensures.lawful h).apart in
-                let at = here _ past.1 (w.in-Some.ensures.gives past.0).0 in
-                let more : (c.loop-place.count ≡ length (ruled (recorded records) (take (p + 1) v.order)))
-                × (c.loop-place.numbers ≡ ruled (recorded records) (take (p + 1) v.order) ++ drop (length (ruled (recorded records) (take (p + 1) v.order))) cells) =
-                elim w.else-ruled.branch [
-                  | else-ruled-via-then-ruled+else-count-lt256 u ↦
-                      let has : is_some (recorded records w.in-Some.number.value) ≡ true = cc in
-                      let room = list_room records v.order cells c.loop-place.numbers p c.loop-place.count w.in-Some.number apart size at past.2 past.3 has in
-                      absurd (omega arith)
-                  | else-ruled-via-else-ruled u ↦
-                      let has : is_some (recorded records w.in-Some.number.value) ≡ false = cc in
-                      list_past records v.order cells c.loop-place.numbers p c.loop-place.count w.in-Some.number apart size at past.2 past.3 has
-                ] in
-                (c.key_of.ensures.sound past.0, (c.key_of.ensures.gives past.0).1 ∙ past.1, w.count-is ∙ more.0, w.numbers-is ∙ more.1, λ _. size),
-          )
-      | in_default w ↦ (
-        omega arith,
-        ap length w.numbers-is ∙ inv.1,
-        kept,
-        inv.3,
-        λ h.
-            let past = inv.4 h in
-            let len = ap (λ (u : Meaning RuleNumber). length u.order) past.1 in
-            absurd (omega (arith, (w.in_default.ensures.gives past.0).0, c.length-place-end.ensures.counts h)),
-      )
-    ]
-
-pub returns : goal.returns
-returns g c =
-    let inv = c.loop-place.invariant in
-    let order = (g.S.OrderedSet.meaning c.args.self.now.set).order in
-    let records = c.args.self.now.rules in
+    let now = c.args.self.now in
+    let order = (g.S.OrderedSet.meaning now.set).order in
+    let here : (n : RuleNumber) → At (g.S.OrderedSet.meaning c.loop-place.self.set).order p n → At order p n =
+    λ n. subst (λ (u : Meaning RuleNumber). At u.order p n) past.same in
+    let len = ap (λ (u : Meaning RuleNumber). length u.order) past.same in
     record {
-      lists = λ h.
-          let past = inv.4 h in
-          let all = ap (ruled (recorded records)) (take_all c.loop-place.place order (omega (arith, c.length-place-end.ensures.counts h))) in
-          let most = listed_most records order c.loop-place.place (omega (arith, c.length-place-end.ensures.counts h)) (c.length-place-end.ensures.lawful h).apart past.4 in
-          record {
-            counts = past.2 ∙ ap length all;
-            most = most;
-            fills = past.3 ∙ ap (λ (ns : List ℕ). ns ++ drop (length ns) c.args.numbers.now) all;
-            same = same_pages past.1 inv.3;
-          };
-      within = inv.0;
-      sound = λ h. (inv.4 h).0;
-      kept = cc;
+      body = c.key_of.ensures.kept ∙ past.body;
+      rules = past.rules;
+      same = c.key_of.ensures.gives.1 ∙ past.same;
+      lists = elim c.match-key_of.branch [
+        | in-Some+then-is_some w ↦
+            let has : is_some (recorded now.rules w.in-Some.number.value) ≡ true = cc in
+            ap (λ v. v.items) w.numbers-is ∙ w.push.ensures.items ∙ list_ruled now.rules order c.loop-place.numbers.items p w.in-Some.number (here _ w.in-Some.ensures.gives.0) past.lists has
+        | in-Some+else-is_some w ↦
+            let has : is_some (recorded now.rules w.in-Some.number.value) ≡ false = cc in
+            ap (λ v. v.items) w.numbers-is ∙ list_past now.rules order c.loop-place.numbers.items p w.in-Some.number (here _ w.in-Some.ensures.gives.0) past.lists has
+        | in_default w ↦ absurd (omega (arith, w.in_default.ensures.gives.0, c.length-place-end.ensures))
+      ];
     }
+
+pub returns-clause-lists : goal.returns-clause-lists
+returns-clause-lists g c =
+    let past = c.loop-place.invariant in
+    let now = c.args.self.now in
+    let order = (g.S.OrderedSet.meaning now.set).order in
+    let all = past.lists ∙ ap (ruled (recorded now.rules)) (take_all c.loop-place.place order (omega (arith, c.length-place-end.ensures))) in
+    let most = recorded_most now.rules order (g.met.S.OrderedSet.lawful now.set).apart in
+    let size = now.whole in
+    record { lists = all; most = omega (arith, ap length all); same = same_pages past.same past.rules }

@@ -1,55 +1,49 @@
 -- Each call does what its name says, and leaves the other set.
-use Rattle.std.proofs.Common.{sym, ap, subst}
-use Rattle.book.specs.declared.book.Book.{Book}
+use Rattle.std.proofs.Common.{◌≡◌, Result, sym, ap, subst, rules}
+use Rattle.book.specs.declared.call.Answer.{Answer}
+use Rattle.book.specs.declared.call.Call.{Call}
+use Rattle.book.specs.declared.fault.BookFault.{BookFault}
 use Rattle.book.specs.Books.{pages}
-use Rattle.book.specs.Calls.{Carries}
-use Rattle.book.proofs.Carrying.{as_call, stays_placed, stays_sent}
+use Rattle.book.specs.Calls.{Carries, decided, placed, sent}
+use Rattle.book.specs.Yards.{Board}
 use Rattle.book.proofs.panel.Panel.carry.Goals as goal
 
-pub returns-in-Add : goal.returns-in-Add
-unfolding Carries
-returns-in-Add g c = record {
-  answers = λ h. as_call _ _ c.args.call _ _ c.in-Add.is (c.add.result, c.placed_answer.ensures, c.add.ensures.adds h.0, ap g.Y.OrderedSet.meaning c.add.ensures.yard);
-  sound = λ h. (c.add.ensures.sound h.0, subst g.Y.OrderedSet.sound (sym c.add.ensures.yard) h.1);
-  kept = λ h stays. let e = c.add.ensures.kept (stays_placed _ _ c.placed_answer.ensures stays) in let f = c.add.ensures.yard in cc;
-}
+-- a call under its own name
+as_call : (v w : Board) (call call' : Call) (a : Result Answer BookFault) → call ≡ call' → Carries call' a v w → Carries call a v w
+as_call v w call call' a e carried = subst (λ (x : Call). Carries x a v w) (sym e) carried
 
-pub returns-in-Drop : goal.returns-in-Drop
+pub returns-in-Add-clause-answers : goal.returns-in-Add-clause-answers
 unfolding Carries
-returns-in-Drop g c = record {
-  answers = λ h. as_call _ _ c.args.call _ _ c.in-Drop.is (c.drop_rule.result, c.placed_answer-in-Drop.ensures, c.drop_rule.ensures.drops h.0, ap g.Y.OrderedSet.meaning c.drop_rule.ensures.yard);
-  sound = λ h. (c.drop_rule.ensures.sound h.0, subst g.Y.OrderedSet.sound (sym c.drop_rule.ensures.yard) h.1);
-  kept = λ h stays. let e = c.drop_rule.ensures.kept (stays_placed _ _ c.placed_answer-in-Drop.ensures stays) in let f = c.drop_rule.ensures.yard in cc;
-}
+returns-in-Add-clause-answers g c =
+    let is : c.map.result ≡ placed c.add.result = search rules in
+    as_call _ _ c.args.call _ _ c.in-Add.is (c.add.result, is, c.add.ensures.adds, ap g.Y.OrderedSet.meaning c.add.ensures.yard)
 
-pub returns-in-Move : goal.returns-in-Move
+pub returns-in-Drop-clause-answers : goal.returns-in-Drop-clause-answers
 unfolding Carries
-returns-in-Move g c = record {
-  answers = λ h. as_call _ _ c.args.call _ _ c.in-Move.is (c.move_rule.result, c.placed_answer-in-Move.ensures, c.move_rule.ensures.moves h.0, ap g.Y.OrderedSet.meaning c.move_rule.ensures.yard);
-  sound = λ h. (c.move_rule.ensures.sound h.0, subst g.Y.OrderedSet.sound (sym c.move_rule.ensures.yard) h.1);
-  kept = λ h stays. let e = c.move_rule.ensures.kept h.0 (stays_placed _ _ c.placed_answer-in-Move.ensures stays) in let f = c.move_rule.ensures.yard in cc;
-}
+returns-in-Drop-clause-answers g c =
+    let is : c.map-in-Drop.result ≡ placed c.drop_rule.result = search rules in
+    as_call _ _ c.args.call _ _ c.in-Drop.is (c.drop_rule.result, is, c.drop_rule.ensures.drops, ap g.Y.OrderedSet.meaning c.drop_rule.ensures.yard)
 
-pub returns-in-Join : goal.returns-in-Join
+pub returns-in-Move-clause-answers : goal.returns-in-Move-clause-answers
 unfolding Carries
-returns-in-Join g c = record {
-  answers = λ h. as_call _ _ c.args.call _ _ c.in-Join.is (c.join.result, c.placed_answer-in-Join.ensures, c.join.ensures.joins h.1, ap (pages g.R.OrderedSet) c.join.ensures.book);
-  sound = λ h. (subst g.R.OrderedSet.sound (ap (λ (b : Book g.row.R.Denot). b.set) (sym c.join.ensures.book)) h.0, c.join.ensures.sound h.1);
-  kept = λ h stays. let e = c.join.ensures.kept (stays_placed _ _ c.placed_answer-in-Join.ensures stays) in let f = c.join.ensures.book in cc;
-}
+returns-in-Move-clause-answers g c =
+    let is : c.map-in-Move.result ≡ placed c.move_rule.result = search rules in
+    as_call _ _ c.args.call _ _ c.in-Move.is (c.move_rule.result, is, c.move_rule.ensures.moves, ap g.Y.OrderedSet.meaning c.move_rule.ensures.yard)
 
-pub returns-in-Send : goal.returns-in-Send
+pub returns-in-Join-clause-answers : goal.returns-in-Join-clause-answers
 unfolding Carries
-returns-in-Send g c = record {
-  answers = λ h. as_call _ _ c.args.call _ _ c.in-Send.is (c.send.result, c.sent_answer.ensures, c.send.ensures.sends h);
-  sound = c.send.ensures.sound;
-  kept = λ h stays. c.send.ensures.kept (stays_sent _ _ c.sent_answer.ensures stays);
-}
+returns-in-Join-clause-answers g c =
+    let is : c.map-in-Join.result ≡ placed c.join.result = search rules in
+    as_call _ _ c.args.call _ _ c.in-Join.is (c.join.result, is, c.join.ensures.joins, ap (pages g.R.OrderedSet) c.join.ensures.book)
 
-pub returns-in-Decide : goal.returns-in-Decide
+pub returns-in-Send-clause-answers : goal.returns-in-Send-clause-answers
 unfolding Carries
-returns-in-Decide g c = record {
-  answers = λ h. as_call _ _ c.args.call _ _ c.in-Decide.is (c.decide.result, c.decided_answer.ensures, c.decide.ensures.decides h.0, ap g.Y.OrderedSet.meaning c.decide.ensures.yard);
-  sound = λ h. (c.decide.ensures.sound h.0, subst g.Y.OrderedSet.sound (sym c.decide.ensures.yard) h.1);
-  kept = λ h stays. let e = c.decide.ensures.kept in let f = c.decide.ensures.yard in cc;
-}
+returns-in-Send-clause-answers g c =
+    let is : c.map-in-Send.result ≡ sent c.send.result = search rules in
+    as_call _ _ c.args.call _ _ c.in-Send.is (c.send.result, is, c.send.ensures.sends)
+
+pub returns-in-Decide-clause-answers : goal.returns-in-Decide-clause-answers
+unfolding Carries
+returns-in-Decide-clause-answers g c =
+    let is : c.map-in-Decide.result ≡ decided c.decide.result = search rules in
+    as_call _ _ c.args.call _ _ c.in-Decide.is (c.decide.result, is, c.decide.ensures.decides, ap g.Y.OrderedSet.meaning c.decide.ensures.yard)

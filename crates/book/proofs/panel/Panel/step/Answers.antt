@@ -2,10 +2,5 @@
 use Rattle.book.proofs.Departing.{go_on}
 use Rattle.book.proofs.panel.Panel.step.Goals as goal
 
-pub returns : goal.returns
-returns g c = record {
-  answers = c.carry.ensures.answers;
-  sound = c.carry.ensures.sound;
-  kept = c.carry.ensures.kept;
-  law = λ sound start h follows. go_on start h _ follows _ c.args.call c.carry.result (c.carry.ensures.answers sound);
-}
+pub returns-clause-law : goal.returns-clause-law
+returns-clause-law g c = λ start h follows. go_on start h _ follows _ c.args.call c.carry.result c.carry.ensures.answers
