@@ -1,13 +1,14 @@
-// A desk: what the members' lines are typed at. Its type says that both piles are sound, so that its calls promise all with no premise.
+// A desk: what the members' lines are typed at.
 ghost use Rattle.std.specs.Prelude.{◌≡◌, []};
 ghost use Rattle.skip_list.specs.Lent.{size};
 ghost use Rattle.line.specs.Consoles.{stand};
 ghost use Rattle.line.specs.Dialogues.{Dialogue};
-ghost use Rattle.desk.specs.Desks.{Prepared, new_desk, rules as «the-rules», yard as «the-yard»};
+ghost use Rattle.desk.specs.Desks.{new_desk};
 
 use crate::piles::{RulesPile, YardPile, rules_pile, yard_pile};
 use line::console::Console;
 use order::keys::{RuleNumber, TrainTag};
+use order::set::OrderedSet;
 use skip_list::list::SkipList;
 
 pub mod answer;
@@ -15,7 +16,6 @@ pub mod answer;
 #[derive(Drop)]
 pub struct Desk<'r, 'n, 'y, 't> {
     console: Console<RulesPile<'r, 'n>, YardPile<'y, 't>>,
-    ghost prepared: { ∥ Prepared console ∥₁ },
 }
 
 impl<'r, 'n, 'y, 't> Desk<'r, 'n, 'y, 't> {
@@ -24,7 +24,7 @@ impl<'r, 'n, 'y, 't> Desk<'r, 'n, 'y, 't> {
         numbers: &'r mut SkipList<'n, RuleNumber>,
         tags: &'y mut SkipList<'t, TrainTag>,
     ) -> Desk<'r, 'n, 'y, 't>
-        ensures begins { Dialogue (new_desk (size numbers.old.lent) (size tags.old.lent)) [] [] (stand «the-rules» «the-yard» result.console) }
+        ensures begins { Dialogue (new_desk (size numbers.old.lent) (size tags.old.lent)) [] [] (stand ⟦<RulesPile<'r, 'n> as OrderedSet<RuleNumber>>⟧ ⟦<YardPile<'y, 't> as OrderedSet<TrainTag>>⟧ result.console) }
     {
         Desk {
             console: Console::new(rules_pile(numbers), yard_pile(tags)),

@@ -1,4 +1,4 @@
-// The desk of the program: a console over its two piles, whose type carries all that their promises rest on.
+// The desk of the program: a console over its two piles.
 #![tactic(auto)]
 
 pub mod desk;

@@ -2,7 +2,6 @@
 ghost use Rattle.std.specs.Prelude.{◌≡◌, min};
 ghost use Rattle.order.specs.Order.{vacant};
 ghost use Rattle.skip_list.specs.Lent.{size};
-ghost use Rattle.desk.specs.Desks.{rules, yard};
 
 use layers::last_place::LastPlace;
 use layers::limit::Limit;
@@ -16,12 +15,11 @@ const BERTHS: u32 = 12;
 
 pub type RulesPile<'r, 'n> = LastPlace<RuleNumber, Loan<'r, SkipList<'n, RuleNumber>>>;
 
-pub type YardPile<'y, 't> = Limit<LastPlace<TrainTag, Loan<'y, SkipList<'t, TrainTag>>>>;
+pub type YardPile<'y, 't> = Limit<TrainTag, LastPlace<TrainTag, Loan<'y, SkipList<'t, TrainTag>>>>;
 
 // A last place over the list of rule numbers, which begins anew.
 pub fn rules_pile<'r, 'n>(numbers: &'r mut SkipList<'n, RuleNumber>) -> RulesPile<'r, 'n>
-    ensures sound { rules.sound result }
-    ensures empty { rules.meaning result ≡ vacant (size numbers.old.lent) }
+    ensures { ⟦<RulesPile<'r, 'n> as OrderedSet<RuleNumber>>⟧.meaning result ≡ vacant (size numbers.old.lent) }
 {
     numbers.clear();
     LastPlace::new(Loan::new(numbers))
@@ -29,8 +27,7 @@ pub fn rules_pile<'r, 'n>(numbers: &'r mut SkipList<'n, RuleNumber>) -> RulesPil
 
 // A limit over a last place over the list of tags, which begins anew.
 pub fn yard_pile<'y, 't>(tags: &'y mut SkipList<'t, TrainTag>) -> YardPile<'y, 't>
-    ensures sound { yard.sound result }
-    ensures empty { yard.meaning result ≡ vacant (min 12 (size tags.old.lent)) }
+    ensures { ⟦<YardPile<'y, 't> as OrderedSet<TrainTag>>⟧.meaning result ≡ vacant (min 12 (size tags.old.lent)) }
 {
     tags.clear();
     Limit::new(LastPlace::new(Loan::new(tags)), BERTHS)

@@ -1,6 +1,5 @@
 -- What is printed has room with its newline in 1,024 bytes.
-use Rattle.std.proofs.Common.{◌≡◌, ℕ, ◌*◌, ◌^◌, ◌<◌, ◌≤◌, min, false, List, [], ◌∷◌, map, length, take, is_some, Err, decimal, Option, Result, sym, ap, ◌∙◌, subst, ⊎_elim, arith, length-append}
-use lib.Seq.{take-append-le, take-length}
+use Rattle.std.proofs.Common.{◌≡◌, ℕ, ◌*◌, ◌^◌, ◌<◌, ◌≤◌, List, [], ◌∷◌, map, length, is_some, decimal, Option, sym, subst, ⊎_elim, arith, length-append}
 use Rattle.std.proofs.lemmas.Fmt.{length-decimal-le}
 use Rattle.std.proofs.lemmas.Bool.{cases_lt, cond_both}
 use Rattle.std.specs.List.{AllByRecursion as All}
@@ -9,19 +8,15 @@ use Rattle.order.specs.declared.fault.SetFault.{SetFault}
 use Rattle.order.specs.declared.fault.SetFault.TheVariants.{Present, NoPredecessor, PastEnd, Full, Uneven}
 use Rattle.order.specs.declared.keys.RuleNumber.{RuleNumber}
 use Rattle.order.specs.declared.keys.TrainTag.{TrainTag}
-use Rattle.book.specs.Books.{Lists}
 use Rattle.book.specs.Faults.{fault_number, fault_word}
-use Rattle.book.specs.Pages.{Pages, ruled}
-use Rattle.book.specs.Pages.{listing as ruled_numbers}
+use Rattle.book.specs.Pages.{recorded, ruled}
 use Rattle.book.specs.declared.fault.BookFault.{BookFault}
 use Rattle.book.specs.declared.fault.BookFault.TheVariants as books
 use Rattle.book.specs.declared.rule.Rule.{Rule}
-use Rattle.line.specs.Answers.{list_text, placed_text, printed, refused_text, sent_text}
-use Rattle.line.specs.Consoles.{Brief, Numbered}
+use Rattle.book.proofs.Places.{past_recorded}
+use Rattle.line.specs.Answers.{list_text, placed_text, refused_text, sent_text}
 use Rattle.line.specs.Faults.{line_number, line_word}
 use Rattle.line.specs.Words.{spread}
-use Rattle.line.specs.declared.answer.Answer.{Answer}
-use Rattle.line.specs.declared.answer.Answer.TheVariants.{Listed}
 use Rattle.line.specs.declared.fault.LineFault.{LineFault}
 use Rattle.line.specs.declared.fault.LineFault.TheVariants.{Book, BadLine, SmallOut}
 
@@ -68,29 +63,18 @@ spread_short : (ns : List ℕ) → All (λ n. n < 256) ns → length (spread (ma
 spread_short [] h = omega arith
 spread_short (n ∷ ns) h = omega (arith, spread_short ns h.1, three n h.0, length-append (decimal n) (spread (map decimal ns)))
 
-pub list_brief : (ns : List ℕ) → length ns ≤ 256 → All (λ n. n < 256) ns → length (list_text ns) ≤ 1023
+list_brief : (ns : List ℕ) → length ns ≤ 256 → All (λ n. n < 256) ns → length (list_text ns) ≤ 1023
 list_brief [] l h = omega arith
 list_brief (n ∷ ns) l h = omega (arith, spread_short ns h.1, three n h.0, length-append (decimal n) (spread (map decimal ns)))
 
-ruled_small : (rules : ℕ → Option Rule) → ((n : ℕ) → 255 < n → is_some (rules n) ≡ false) → (ks : List RuleNumber) → All (λ n. n < 256) (ruled rules ks)
-ruled_small rules h [] = tt
-ruled_small rules h (k ∷ ks) =
+-- a table of 256 records lists no other numbers
+ruled_small : (records : List (Option Rule)) → length records ≡ 256 → (ks : List RuleNumber) → All (λ n. n < 256) (ruled (recorded records) ks)
+ruled_small records whole [] = tt
+ruled_small records whole (k ∷ ks) =
     ⊎_elim
-    (λ (l : k.value < 256). cond_both (is_some (rules k.value)) _ _ (λ (ns : List ℕ). All (λ n. n < 256) ns) (λ _. (l, ruled_small rules h ks)) (λ _. ruled_small rules h ks))
-    (λ (l : 256 ≤ k.value). let e = h k.value (omega arith) in rw e (ruled_small rules h ks))
+    (λ (l : k.value < 256). cond_both (is_some (recorded records k.value)) _ _ (λ (ns : List ℕ). All (λ n. n < 256) ns) (λ _. (l, ruled_small records whole ks)) (λ _. ruled_small records whole ks))
+    (λ (l : 256 ≤ k.value). let e = past_recorded records whole k.value (omega arith) in rw e (ruled_small records whole ks))
     (cases_lt k.value 256)
 
-pub list_small : (v : Pages) → Numbered v → All (λ n. n < 256) (ruled_numbers v)
-list_small v h = ruled_small v.rules h v.numbers.order
-
--- the first cells are the numbers listed
-pub list_text_lem : (cells left : List ℕ) (count : ℕ) (v w : Pages) → Lists cells count left v w → printed (Listed left count) ≡ list_text (ruled_numbers v)
-list_text_lem cells left count v w l =
-    let m : min count 256 ≡ length (ruled_numbers v) = omega (arith, l.counts, l.most) in
-    let t : take (length (ruled_numbers v)) left ≡ ruled_numbers v =
-    ap (take (length (ruled_numbers v))) l.fills ∙ take-append-le (length (ruled_numbers v)) (ruled_numbers v) _ (omega arith) ∙ take-length (ruled_numbers v) in
-    ap list_text (ap (λ k. take k left) m ∙ t)
-
--- a refusal carried up from the book
-pub refused_so : (out : Result Answer LineFault) (f : BookFault) → out ≡ Err (Book f) → Brief out
-refused_so out f e = subst Brief (sym e) (refused_brief (Book f))
+pub listed_brief : (records : List (Option Rule)) → length records ≡ 256 → (ks : List RuleNumber) (ns : List ℕ) → ns ≡ ruled (recorded records) ks → length ns ≤ 256 → length (list_text ns) ≤ 1023
+listed_brief records whole ks ns lists most = list_brief ns most (subst (All (λ n. n < 256)) (sym lists) (ruled_small records whole ks))

@@ -1,6 +1,7 @@
 -- What a field says, read and unread.
 use Rattle.std.proofs.Common.{◌≡◌, ℕ, true, false, eqb, List, [], ◌∷◌, Some, None, decimal, Option, sym, refl, ap, ◌∙◌, subst, ⊎_elim, arith, eqb-true}
 use Rattle.std.proofs.lemmas.Fmt.{decimal_digit}
+use Rattle.std.proofs.lemmas.Option.{none-some}
 use Rattle.std.proofs.lemmas.Bool.{cases_Bool, cond_both}
 use Rattle.line.specs.Grammar.{Capitals as Rises, Mark, Short}
 use Rattle.line.specs.Lines.{a_capitals, a_mark, a_number, capitals_of, ended, field, mark_of, next, number_of}
@@ -43,18 +44,18 @@ field_at (b ∷ bs) w fs h e =
     (cases_Bool (eqb b 32))
 
 -- what was read, by the state at its end
-kept_number : (q : State) (w : List ℕ) (n : ℕ) → Held q w → number_of q ≡ Some n → (w ≡ decimal n) × Short n × (q ≡ Bad → ⊥)
-kept_number Zero w n h e = let z : n ≡ 0 = cc in (h ∙ sym (decimal_digit 0 (omega arith)) ∙ ap decimal (sym z), omega (arith, z), λ b. let o : ◌≡◌ {A = ℕ} 0 1 = cc in omega (arith, o))
-kept_number (Digits m) w n h e = let z : m ≡ n = cc in (h.0 ∙ ap decimal z, omega (arith, z, h.2), λ b. let o : ◌≡◌ {A = ℕ} 0 1 = cc in omega (arith, o))
-kept_number Number w n h e = let o : ◌≡◌ {A = ℕ} 0 1 = cc in absurd (omega (arith, o))
-kept_number Capitals w n h e = let o : ◌≡◌ {A = ℕ} 0 1 = cc in absurd (omega (arith, o))
-kept_number (Risen s) w n h e = let o : ◌≡◌ {A = ℕ} 0 1 = cc in absurd (omega (arith, o))
-kept_number Byte w n h e = let o : ◌≡◌ {A = ℕ} 0 1 = cc in absurd (omega (arith, o))
-kept_number (One b) w n h e = let o : ◌≡◌ {A = ℕ} 0 1 = cc in absurd (omega (arith, o))
-kept_number Bad w n h e = let o : ◌≡◌ {A = ℕ} 0 1 = cc in absurd (omega (arith, o))
+kept_number : (q : State) (w : List ℕ) (n : ℕ) → Held q w → number_of q ≡ Some n → (w ≡ decimal n) × Short n
+kept_number Zero w n h e = let z : n ≡ 0 = cc in (h ∙ sym (decimal_digit 0 (omega arith)) ∙ ap decimal (sym z), omega (arith, z))
+kept_number (Digits m) w n h e = let z : m ≡ n = cc in (h.0 ∙ ap decimal z, omega (arith, z, h.2))
+kept_number Number w n h e = absurd (none-some _ e)
+kept_number Capitals w n h e = absurd (none-some _ e)
+kept_number (Risen s) w n h e = absurd (none-some _ e)
+kept_number Byte w n h e = absurd (none-some _ e)
+kept_number (One b) w n h e = absurd (none-some _ e)
+kept_number Bad w n h e = absurd (none-some _ e)
 
 not_none : {A B : Type 0} (f : A → Option B) (q p : A) (x : B) → f q ≡ Some x → f p ≡ None → q ≡ p → ⊥
-not_none f q p x e n s = let k : f q ≡ f p = ap f s in let o : ◌≡◌ {A = ℕ} 0 1 = cc in omega (arith, o)
+not_none f q p x e n s = none-some x (sym n ∙ ap f (sym s) ∙ e)
 
 pub number_said : (x : List ℕ) (n : ℕ) → a_number x ≡ Some n → Stands x (decimal n) × Short n
 unfolding a_number
@@ -70,24 +71,24 @@ number_read x n fs h w e =
     (ap number_of (t.0 ∙ walk_decimal n h) ∙ cond_both (eqb n 0) Zero (Digits n) (λ (q : State). number_of q ≡ Some n) (λ z. ap (λ m. Some m) (sym (eqb-true n 0 z))) (λ _. refl), t.1, t.2)
 
 kept_capitals : (q : State) (w x : List ℕ) → Held q w → capitals_of q w ≡ Some x → (w ≡ x) × Rises x
-kept_capitals Number w x h e = let o : ◌≡◌ {A = ℕ} 0 1 = cc in absurd (omega (arith, o))
-kept_capitals Zero w x h e = let o : ◌≡◌ {A = ℕ} 0 1 = cc in absurd (omega (arith, o))
-kept_capitals (Digits n) w x h e = let o : ◌≡◌ {A = ℕ} 0 1 = cc in absurd (omega (arith, o))
-kept_capitals Capitals w x h e = let o : ◌≡◌ {A = ℕ} 0 1 = cc in absurd (omega (arith, o))
-kept_capitals Byte w x h e = let o : ◌≡◌ {A = ℕ} 0 1 = cc in absurd (omega (arith, o))
-kept_capitals (One b) w x h e = let o : ◌≡◌ {A = ℕ} 0 1 = cc in absurd (omega (arith, o))
-kept_capitals Bad w x h e = let o : ◌≡◌ {A = ℕ} 0 1 = cc in absurd (omega (arith, o))
+kept_capitals Number w x h e = absurd (none-some _ e)
+kept_capitals Zero w x h e = absurd (none-some _ e)
+kept_capitals (Digits n) w x h e = absurd (none-some _ e)
+kept_capitals Capitals w x h e = absurd (none-some _ e)
+kept_capitals Byte w x h e = absurd (none-some _ e)
+kept_capitals (One b) w x h e = absurd (none-some _ e)
+kept_capitals Bad w x h e = absurd (none-some _ e)
 kept_capitals (Risen m) w x h e = let z : w ≡ x = cc in (z, subst Rises z (rises_from w m h.0 h.1))
 
 kept_mark : (q : State) (w : List ℕ) (x : ℕ) → Held q w → mark_of q ≡ Some x → (w ≡ x ∷ []) × Mark x
-kept_mark Number w x h e = let o : ◌≡◌ {A = ℕ} 0 1 = cc in absurd (omega (arith, o))
-kept_mark Zero w x h e = let o : ◌≡◌ {A = ℕ} 0 1 = cc in absurd (omega (arith, o))
-kept_mark (Digits n) w x h e = let o : ◌≡◌ {A = ℕ} 0 1 = cc in absurd (omega (arith, o))
-kept_mark Capitals w x h e = let o : ◌≡◌ {A = ℕ} 0 1 = cc in absurd (omega (arith, o))
-kept_mark (Risen m) w x h e = let o : ◌≡◌ {A = ℕ} 0 1 = cc in absurd (omega (arith, o))
-kept_mark Byte w x h e = let o : ◌≡◌ {A = ℕ} 0 1 = cc in absurd (omega (arith, o))
+kept_mark Number w x h e = absurd (none-some _ e)
+kept_mark Zero w x h e = absurd (none-some _ e)
+kept_mark (Digits n) w x h e = absurd (none-some _ e)
+kept_mark Capitals w x h e = absurd (none-some _ e)
+kept_mark (Risen m) w x h e = absurd (none-some _ e)
+kept_mark Byte w x h e = absurd (none-some _ e)
 kept_mark (One m) w x h e = let z : m ≡ x = cc in subst (λ y. (w ≡ y ∷ []) × Mark y) z (h.0, h.1)
-kept_mark Bad w x h e = let o : ◌≡◌ {A = ℕ} 0 1 = cc in absurd (omega (arith, o))
+kept_mark Bad w x h e = absurd (none-some _ e)
 
 pub capitals_said : (x w : List ℕ) → a_capitals x ≡ Some w → Stands x w × Rises w
 unfolding a_capitals

@@ -54,10 +54,10 @@ clean_capitals : (w : List ℕ) → Rises w → Clean w
 clean_capitals w h = let k = walk_capitals w h in clean Capitals w (λ e. let q = k.1 in let z : ◌≡◌ {A = ℕ} 0 1 = cc in omega arith)
 
 clean_spelt : (c : Asked) → Lawful c → All Clean (spelt c)
-clean_spelt (adding n p f l cs r) h = (clean_number n h.0, (clean_number p h.1, (clean_number f h.2, (clean_number l h.3, (clean_capitals _ h.4, (clean_number r h.5, tt))))))
+clean_spelt (adding a) h = (clean_number _ h.0, (clean_number _ h.1, (clean_number _ h.2, (clean_number _ h.3, (clean_capitals _ h.4, (clean_number _ h.5, tt))))))
 clean_spelt (dropping n) h = (clean_number n h, tt)
 clean_spelt (moving n p) h = (clean_number n h.0, (clean_number p h.1, tt))
-clean_spelt (joining c m) h = ((h.0, tt), (clean_number m h.1, tt))
+clean_spelt (joining tag) h = ((h.0, tt), (clean_number _ h.1, tt))
 clean_spelt (sending t) h = (clean_number t h, tt)
 clean_spelt listing h = tt
 

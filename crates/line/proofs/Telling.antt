@@ -1,5 +1,5 @@
 -- A line's turns go on with the panel's history, and so does a dialogue.
-use Rattle.std.proofs.Common.{◌≡◌, ℕ, ◌≤◌, List, [], ◌∷◌, ◌++◌, length, Ok, Result, sym, refl, ap, ◌∙◌, subst, ⊎_elim, append-nil, arith, length-append}
+use Rattle.std.proofs.Common.{◌≡◌, ℕ, List, [], ◌∷◌, ◌++◌, Ok, Result, sym, refl, ap, ◌∙◌, subst, ⊎_elim, append-nil, arith, length-append}
 use Rattle.order.specs.declared.keys.RuleNumber.{RuleNumber}
 use Rattle.order.specs.declared.keys.TrainTag.{TrainTag}
 use Rattle.order.specs.declared.set.OrderedSet.{Ghosts}
@@ -11,9 +11,9 @@ use Rattle.book.specs.declared.fault.BookFault.TheVariants.{BadRule}
 use Rattle.book.proofs.Departing.{go_on, route_law}
 use Rattle.book.proofs.Following.{as_history, begins_at}
 use Rattle.line.specs.Answers.{list_text, printed, refused_text}
-use Rattle.line.specs.Consoles.{Acted, Answered, settled, stand}
+use Rattle.line.specs.Consoles.{Acted, Answered, stand}
 use Rattle.line.specs.Grammar.{Asked, Says, listing}
-use Rattle.line.specs.Printing.{Prints, lined}
+use Rattle.line.specs.Printing.{Prints}
 use Rattle.line.specs.Replies.{Called, Performs, Replies, Stand, Unfit, drawing}
 use Rattle.line.specs.Dialogues.{Exchange, Dialogue, Vacant}
 use Rattle.line.specs.declared.answer.Answer.{Answer}
@@ -49,13 +49,11 @@ dialogue_follows start (e ∷ past) ts x vacant (u, before, made, so_far, did, i
     (performs_on e.line e.text made u x did start.board before (dialogue_follows start past before u vacant so_far)).0
 
 module _ {R Y : Type 0} (r : Ghosts R RuleNumber) (y : Ghosts Y TrainTag) (p q : Console R Y) (line : List ℕ) where
-  pub answered : (res : Result Answer LineFault) (answer : Answer) (out left : List ℕ) (n : ℕ) → answer ≡ settled res → 1024 ≤ length out
-      → Acted r y p q line (printed (settled res)) → Prints (printed answer) out left n → Answered r y p q line out left (Ok n)
-  answered res answer out left n is room acted prints =
-      let text = printed (settled res) in
-      let e : printed answer ≡ text = ap printed is in
-      let short : length (lined text) ≤ length out = omega (arith, length-append text (10 ∷ []), acted.brief) in
-      let p' = subst (λ (t : List ℕ). Prints t out left n) e prints short in
+  pub answered : (outcome : Result Answer LineFault) (out left : List ℕ) (n : ℕ)
+      → Acted r y p q line (printed outcome) → Prints (printed outcome) out left n → Answered r y p q line out left (Ok n)
+  answered outcome out left n acted prints =
+      let text = printed outcome in
+      let p' = prints (omega (arith, length-append text (10 ∷ []), acted.brief)) in
       let on = performs_on line text acted.turns (stand r y p) (stand r y q) acted.performs in
       record {
         text = text;

@@ -1,13 +1,9 @@
 -- The reader's walk over a word, and the words of a line.
-use Rattle.std.proofs.Common.{◌≡◌, ℕ, true, false, eqb, List, [], ◌∷◌, ◌++◌, sym, refl, ap, ⊎_elim, ne_eqb}
+use Rattle.std.proofs.Common.{◌≡◌, ℕ, true, false, eqb, List, [], ◌∷◌, ◌++◌, refl, ap, ⊎_elim}
 use Rattle.std.proofs.lemmas.Bool.{cases_Bool}
 use Rattle.line.specs.Words.{word, rest, fields}
 use Rattle.line.specs.States.{stepped, walked}
-use Rattle.line.specs.Lines.{ended, next}
 use Rattle.line.specs.declared.field.State.{State}
-
-pub further : (s : State) (xs : List ℕ) (b : ℕ) (ys : List ℕ) → xs ≡ b ∷ ys → (b ≡ 32 → ⊥) → (walked (stepped s b) (word ys) ≡ walked s (word xs)) × (rest ys ≡ rest xs)
-further s xs b ys e n = let t = ne_eqb b 32 n in let w : word xs ≡ b ∷ word ys = rw (e, t) in (ap (walked s) (sym w), rw (e, t))
 
 pub word_rest : (xs : List ℕ) → word (rest xs) ≡ []
 word_rest [] = refl
@@ -24,6 +20,3 @@ word_and_rest (b ∷ bs) = ⊎_elim (λ (t : eqb b 32 ≡ true). simp t) (λ (t 
 pub walked_append : (s : State) (v w : List ℕ) → walked s (v ++ w) ≡ walked (walked s v) w
 walked_append s [] w = refl
 walked_append s (b ∷ v) w = walked_append (stepped s b) v w
-
-pub after_space : (s : State) (xs ys : List ℕ) → xs ≡ 32 ∷ ys → (walked s (word ys) ≡ ended s xs) × (rest ys ≡ next xs)
-after_space s xs ys e = rw e (refl, refl)

@@ -1,10 +1,10 @@
 -- What is printed of an answer.
-use Rattle.std.specs.Prelude.{ℕ, min, List, [], ◌∷◌, ◌++◌, map, take, codes, decimal}
+use Rattle.std.specs.Prelude.{ℕ, List, [], ◌∷◌, ◌++◌, Some, None, Ok, Err, Result, map, codes, decimal}
 use Rattle.order.specs.declared.keys.TrainTag.{TrainTag}
 use Rattle.line.specs.Faults.{line_number, line_word}
 use Rattle.line.specs.Words.{spread}
 use Rattle.line.specs.declared.answer.Answer.{Answer}
-use Rattle.line.specs.declared.answer.Answer.TheVariants.{Placed, Sent, Stays, Listed, Refused}
+use Rattle.line.specs.declared.answer.Answer.TheVariants.{Placed, Sent, Listed}
 use Rattle.line.specs.declared.fault.LineFault.{LineFault}
 
 -- ok and a place
@@ -27,9 +27,13 @@ refused_text f = codes "no " ++ (decimal (line_number f) ++ ((32 ∷ []) ++ line
 abbrev pub stays_text : List ℕ
 stays_text = codes "none"
 
-abbrev pub printed : Answer → List ℕ
-printed (Placed place) = placed_text place
-printed (Sent tag number route) = sent_text tag number route
-printed Stays = stays_text
-printed (Listed cells count) = list_text (take (min count 256) cells)
-printed (Refused f) = refused_text f
+abbrev pub printed_answer : Answer → List ℕ
+printed_answer (Placed place) = placed_text place
+printed_answer (Sent (Some d)) = sent_text d.0 d.1 d.2
+printed_answer (Sent None) = stays_text
+printed_answer (Listed numbers) = list_text numbers.items
+
+-- a refusal is printed too
+abbrev pub printed : Result Answer LineFault → List ℕ
+printed (Ok answer) = printed_answer answer
+printed (Err f) = refused_text f

@@ -6,7 +6,9 @@
 --     Says line a      the line is the written form of what is asked
 --     Reads line r     the command that the line says, or BadLine where it says none
 use Rattle.std.specs.Prelude.{◌≡◌, ℕ, ◌^◌, ◌<◌, ◌≤◌, List, [], ◌∷◌, length, Ok, Err, decimal, Result, ◌≢◌, slice_index}
+use Rattle.order.specs.declared.keys.TrainTag.{TrainTag}
 use Rattle.line.specs.Words.{spread}
+use Rattle.line.specs.declared.command.Adding.{Adding}
 use Rattle.line.specs.declared.command.Command.{Command}
 use Rattle.line.specs.declared.command.Command.TheVariants.{Add, Drop, Move, Join, Send, List as Listing}
 use Rattle.line.specs.declared.fault.LineFault.{LineFault}
@@ -29,47 +31,59 @@ Rising low (b ∷ bs) = (low < b) × (b ≤ 90) × Rising b bs
 abbrev pub Capitals : List ℕ → Type 0
 Capitals bs = (0 < length bs) × Rising 64 bs
 
--- what a command asks for, its classes as bytes
+-- a rule to put in, its classes as bytes
+pub record Addition : Type 0 where
+  pub number : ℕ
+  pub place : ℕ
+  pub first : ℕ
+  pub last : ℕ
+  pub classes : List ℕ
+  pub route : ℕ
+
+-- what a command asks for
 pub data Asked : Type 0 where
-  adding : ℕ → ℕ → ℕ → ℕ → List ℕ → ℕ → Asked
+  adding : Addition → Asked
   dropping : ℕ → Asked
   moving : ℕ → ℕ → Asked
-  joining : ℕ → ℕ → Asked
+  joining : TrainTag → Asked
   sending : ℕ → Asked
   listing : Asked
 
+abbrev pub addition : Adding → Addition
+addition a = record { number = a.number; place = a.place; first = a.first; last = a.last; classes = a.classes.now; route = a.route }
+
 abbrev pub asked : Command → Asked
-asked (Add n p f l cs r) = adding n p f l cs.now r
+asked (Add a) = adding (addition a)
 asked (Drop n) = dropping n
 asked (Move n p) = moving n p
-asked (Join c m) = joining c m
+asked (Join tag) = joining tag
 asked (Send t) = sending t
 asked Listing = listing
 
 -- its letter: A, D, M, T, S, L
 abbrev pub letter : Asked → ℕ
-letter (adding n p f l cs r) = 65
+letter (adding a) = 65
 letter (dropping n) = 68
 letter (moving n p) = 77
-letter (joining c m) = 84
+letter (joining tag) = 84
 letter (sending t) = 83
 letter listing = 76
 
 -- the fields after it
 abbrev pub spelt : Asked → List (List ℕ)
-spelt (adding n p f l cs r) = decimal n ∷ decimal p ∷ decimal f ∷ decimal l ∷ cs ∷ decimal r ∷ []
+spelt (adding a) = decimal a.number ∷ decimal a.place ∷ decimal a.first ∷ decimal a.last ∷ a.classes ∷ decimal a.route ∷ []
 spelt (dropping n) = decimal n ∷ []
 spelt (moving n p) = decimal n ∷ decimal p ∷ []
-spelt (joining c m) = (c ∷ []) ∷ decimal m ∷ []
+spelt (joining tag) = (tag.class ∷ []) ∷ decimal tag.number ∷ []
 spelt (sending t) = decimal t ∷ []
 spelt listing = []
 
 -- what its fields may be
 abbrev pub Lawful : Asked → Type 0
-Lawful (adding n p f l cs r) = Short n × Short p × Short f × Short l × Capitals cs × Short r
+Lawful (adding a) = Short a.number × Short a.place × Short a.first × Short a.last × Capitals a.classes × Short a.route
 Lawful (dropping n) = Short n
 Lawful (moving n p) = Short n × Short p
-Lawful (joining c m) = Mark c × Short m
+Lawful (joining tag) = Mark tag.class × Short tag.number
 Lawful (sending t) = Short t
 Lawful listing = Unit {0}
 

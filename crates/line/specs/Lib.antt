@@ -2,7 +2,6 @@
 pub mod Answers
 pub mod Consoles
 pub mod Dialogues
-pub mod Draws
 pub mod Faults
 pub mod Grammar
 pub mod Lines

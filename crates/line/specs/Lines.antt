@@ -87,10 +87,10 @@ said l x =
     bind (a_number (next (next (next x)))) (λ t.
     bind (a_capitals (next (next (next (next x))))) (λ s.
     bind (a_number (next (next (next (next (next x)))))) (λ r.
-    end (next (next (next (next (next (next x)))))) (adding n p f t s r)))))))
+    end (next (next (next (next (next (next x)))))) (adding (record { number = n; place = p; first = f; last = t; classes = s; route = r }))))))))
     )
     (cond (l == 68) (bind (a_number x) (λ n. end (next x) (dropping n)))
     (cond (l == 77) (bind (a_number x) (λ n. bind (a_number (next x)) (λ p. end (next (next x)) (moving n p))))
-    (cond (l == 84) (bind (a_mark x) (λ b. bind (a_number (next x)) (λ m. end (next (next x)) (joining b m))))
+    (cond (l == 84) (bind (a_mark x) (λ b. bind (a_number (next x)) (λ m. end (next (next x)) (joining (record { class = b; number = m })))))
     (cond (l == 83) (bind (a_number x) (λ t. end (next x) (sending t)))
     (cond (l == 76) (end x listing) None))))))

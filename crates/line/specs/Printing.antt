@@ -9,6 +9,6 @@ lined text = text ++ (10 ∷ [])
 abbrev pub fronted : List ℕ → List ℕ → List ℕ
 fronted bytes out = bytes ++ drop (length bytes) out
 
--- where the text and its newline have room in out, they stand at its front, later bytes are as before, and n is their length
+-- where the text and its newline have room on a page, they stand at the front of out, later bytes are as before, and n is their length
 abbrev pub Prints : List ℕ → List ℕ → List ℕ → ℕ → Type 0
-Prints text out after n = length (lined text) ≤ length out → (n ≡ length (lined text)) × (after ≡ fronted (lined text) out)
+Prints text out after n = length (lined text) ≤ 1024 → (n ≡ length (lined text)) × (after ≡ fronted (lined text) out)

@@ -5,12 +5,13 @@
 --     Replies a draw text ts v w   what is asked is answered by the text, adds the turns ts, and leads from v to w
 --     drawing a state              the state of the draws after it: an add, a move and a join take one
 --     Performs line text ts u x    the line does this, from the stand u to the stand x
-use Rattle.std.specs.Prelude.{◌≡◌, ℕ, ◌⊎◌, List, [], ◌∷◌, Some, None, Ok}
-use Rattle.order.specs.declared.keys.TrainTag.{TrainTag}
+use Rattle.std.specs.Prelude.{◌≡◌, ℕ, ◌⊎◌, List, [], ◌∷◌, Some, None, Ok, Err, Result}
+use Rattle.draws.specs.Draws.{drawn}
 use Rattle.book.specs.declared.call.Answer as answers
 use Rattle.book.specs.declared.call.Call.{Call}
 use Rattle.book.specs.declared.call.Call.TheVariants.{Add, Drop, Move, Join, Send}
 use Rattle.book.specs.declared.call.Turn.{Turn}
+use Rattle.book.specs.declared.fault.BookFault.{BookFault}
 use Rattle.book.specs.declared.fault.BookFault.TheVariants.{BadRule}
 use Rattle.book.specs.declared.rule.Rule.{Rule}
 use Rattle.book.specs.Calls.{Carries, turn}
@@ -18,41 +19,37 @@ use Rattle.book.specs.Pages.{listing as ruled_numbers}
 use Rattle.book.specs.Rules.{Fit, Makes}
 use Rattle.book.specs.Yards.{Board}
 use Rattle.line.specs.Answers.{list_text, placed_text, refused_text, sent_text, stays_text}
-use Rattle.line.specs.Draws.{drawn}
 use Rattle.line.specs.Grammar.{Asked, Says, adding, dropping, joining, listing, moving, sending}
 use Rattle.line.specs.declared.fault.LineFault.TheVariants.{Book, BadLine}
 
-abbrev pub tag : ℕ → ℕ → TrainTag
-tag class train = record { class = class; number = train }
-
 abbrev pub Calls : Asked → ℕ → Call → Type 0
-Calls (adding n p f l cs r) draw call = (rule : Rule) × Makes f l cs r (Ok rule) × (call ≡ Add n rule p draw)
+Calls (adding a) draw call = (rule : Rule) × Makes a.first a.last a.classes a.route (Ok rule) × (call ≡ Add a.number rule a.place draw)
 Calls (dropping n) draw call = call ≡ Drop n
 Calls (moving n p) draw call = call ≡ Move n p draw
-Calls (joining c m) draw call = call ≡ Join (tag c m) draw
+Calls (joining tag) draw call = call ≡ Join tag draw
 Calls (sending t) draw call = call ≡ Send t
 Calls listing draw call = ⊥
 
 abbrev pub Unfit : Asked → Type 0
-Unfit (adding n p f l cs r) = Fit f l cs r → ⊥
+Unfit (adding a) = Fit a.first a.last a.classes a.route → ⊥
 Unfit (dropping n) = ⊥
 Unfit (moving n p) = ⊥
-Unfit (joining c m) = ⊥
+Unfit (joining tag) = ⊥
 Unfit (sending t) = ⊥
 Unfit listing = ⊥
 
 -- no line asks for a decision alone
-abbrev pub Shows : answers.Answer → List ℕ → Type 0
-Shows (answers.TheVariants.Placed p) text = text ≡ placed_text p
-Shows (answers.TheVariants.Decided d) text = ⊥
-Shows (answers.TheVariants.Sent (Some d)) text = text ≡ sent_text d.0 d.1 d.2
-Shows (answers.TheVariants.Sent None) text = text ≡ stays_text
-Shows (answers.TheVariants.Refused f) text = text ≡ refused_text (Book f)
+abbrev pub Shows : Result answers.Answer BookFault → List ℕ → Type 0
+Shows (Ok (answers.TheVariants.Placed p)) text = text ≡ placed_text p
+Shows (Ok (answers.TheVariants.Decided d)) text = ⊥
+Shows (Ok (answers.TheVariants.Sent (Some d))) text = text ≡ sent_text d.0 d.1 d.2
+Shows (Ok (answers.TheVariants.Sent None)) text = text ≡ stays_text
+Shows (Err f) text = text ≡ refused_text (Book f)
 
 -- a call was made: it is the one turn
 pub record Called (a : Asked) (draw : ℕ) (text : List ℕ) (ts : List Turn) (v w : Board) : Type 0 where
   pub call : Call
-  pub answer : answers.Answer
+  pub answer : Result answers.Answer BookFault
   pub calls : Calls a draw call
   pub carries : Carries call answer v w
   pub shows : Shows answer text
@@ -66,10 +63,10 @@ Replies a draw text ts v w =
     ⊎ ((a ≡ listing) × (text ≡ list_text (ruled_numbers v.book)) × (ts ≡ []) × (w ≡ v)))
 
 abbrev pub drawing : Asked → ℕ → ℕ
-drawing (adding n p f l cs r) state = drawn state
+drawing (adding a) state = drawn state
 drawing (dropping n) state = state
 drawing (moving n p) state = drawn state
-drawing (joining c m) state = drawn state
+drawing (joining tag) state = drawn state
 drawing (sending t) state = state
 drawing listing state = state
 

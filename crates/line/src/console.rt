@@ -1,10 +1,10 @@
 // A console: a panel behind a command line, and the draws that its lines take.
 ghost use Rattle.std.specs.Prelude.{◌≡◌, []};
-ghost use Rattle.line.specs.Consoles.{Ready, stand};
+ghost use Rattle.line.specs.Consoles.{stand};
 ghost use Rattle.line.specs.Dialogues.{Dialogue, opening};
 
-use crate::draws::Draws;
 use book::panel::Panel;
+use draws::Draws;
 use order::key::Key;
 use order::keys::{RuleNumber, TrainTag};
 use order::set::OrderedSet;
@@ -24,7 +24,6 @@ impl<R: OrderedSet<RuleNumber>, Y: OrderedSet<TrainTag>> Console<R, Y> {
         ensures means { stand R.OrderedSet Y.OrderedSet result ≡ opening R.OrderedSet Y.OrderedSet rules yard }
         ensures rules { result.panel.book.set ≡ rules }
         ensures yard { result.panel.yard ≡ yard }
-        ensures ready { R.OrderedSet.sound rules → Y.OrderedSet.sound yard → Ready R.OrderedSet Y.OrderedSet result }
         ensures begins { Dialogue (opening R.OrderedSet Y.OrderedSet rules yard) [] [] (stand R.OrderedSet Y.OrderedSet result) }
     {
         let panel = Panel::new(rules, yard);

@@ -5,7 +5,7 @@ ghost use Rattle.line.specs.declared.fault.LineFault.TheVariants.{Book};
 
 use book::fault::BookFault;
 
-#[derive(Clone, Copy)]
+#[derive(Clone, Copy, Debug, PartialEq, Eq)]
 pub enum LineFault {
     Book(BookFault),
     BadLine,
@@ -13,7 +13,7 @@ pub enum LineFault {
 }
 
 impl LineFault {
-    // The number under which it is reported.
+    // The number under which it is reported: the rules give each fault its own, so each type has its table.
     pub fn number(&self) -> u8
         ensures { result ≡ line_number self.now }
     {

@@ -13,6 +13,19 @@ pub(crate) enum Class {
     Other,
 }
 
+impl From<u8> for Class {
+    ghost from_gives = { λ b r. r ≡ classed b };
+
+    fn from(b: u8) -> Class {
+        match b {
+            b' ' => Class::Space,
+            b'0'..=b'9' => Class::Digit(b - b'0'),
+            b'A'..=b'Z' => Class::Capital,
+            _ => Class::Other,
+        }
+    }
+}
+
 // How far the reader is in a field.
 #[derive(Clone, Copy)]
 pub(crate) enum State {
@@ -55,17 +68,6 @@ impl State {
     }
 }
 
-fn class_of(b: u8) -> Class
-    ensures { result ≡ classed b }
-{
-    match b {
-        b' ' => Class::Space,
-        b'0'..=b'9' => Class::Digit(b - b'0'),
-        b'A'..=b'Z' => Class::Capital,
-        _ => Class::Other,
-    }
-}
-
 // What is left of a line, and the state of the field that is read.
 #[derive(Drop)]
 pub(crate) struct Reader<'a> {
@@ -87,7 +89,7 @@ impl<'a> Reader<'a> {
         ensures state { self.new.state ≡ stepped self.old.state b }
         ensures left { self.new.left.now ≡ self.old.left.now }
     {
-        self.state = match (self.state, class_of(b)) {
+        self.state = match (self.state, Class::from(b)) {
             (_, Class::Space) => State::Bad,
             (State::Number, Class::Digit(0)) => State::Zero,
             (State::Number, Class::Digit(d)) => State::Digits(u16::from(d)),
@@ -130,6 +132,7 @@ impl<'a> Reader<'a> {
         }
     }
 
+    #[tactic(auto, unfolding(crate::specs::Lines::a_number))]
     pub(crate) fn number(&mut self) -> Option<u16>
         ensures value { result ≡ a_number self.old.left.now }
         ensures left { self.new.left.now ≡ next self.old.left.now }
@@ -150,6 +153,7 @@ impl<'a> Reader<'a> {
         }
     }
 
+    #[tactic(auto, unfolding(crate::specs::Lines::a_mark))]
     pub(crate) fn mark(&mut self) -> Option<u8>
         ensures value { result ≡ a_mark self.old.left.now }
         ensures left { self.new.left.now ≡ next self.old.left.now }

@@ -4,7 +4,6 @@
 pub(crate) mod answer;
 pub mod command;
 pub mod console;
-pub mod draws;
 pub mod fault;
 mod field;
 pub(crate) mod page;

@@ -1,53 +1,48 @@
-// Bytes written one after the other at the front of a lent slice; a full page takes no more.
-ghost use Rattle.std.specs.Prelude.{◌≡◌, [], ◌∷◌, decimal};
+// The bytes of a printed line, written one after the other; a full page takes no more.
+ghost use Rattle.std.specs.Prelude.{◌≡◌, ◌≤◌, [], ◌∷◌, length};
 ghost use Rattle.line.specs.Pages.{Puts};
 
-// A lent slice whose first `len` bytes are written.
+use arrayvec::ArrayVec;
+use itoa::{Buffer, Integer};
+
+// No printed line has more than 1,024 bytes, its newline counted.
 #[derive(Drop)]
-pub(crate) struct Page<'a> {
-    out: &'a mut [u8],
-    len: usize,
+pub(crate) struct Page {
+    bytes: ArrayVec<u8, 1024>,
 }
 
-impl<'a> Page<'a> {
-    pub(crate) fn new(out: &'a mut [u8]) -> Page<'a>
-        ensures len { result.len ≡ 0 }
-        ensures out { result.out ≡ out.entry }
+impl Page {
+    pub(crate) fn new() -> Page
+        ensures { result.bytes.items ≡ [] }
     {
-        Page { out, len: 0 }
+        Page {
+            bytes: ArrayVec::new(),
+        }
     }
 
-    pub(crate) fn len(&self) -> usize
-        ensures { result ≡ self.now.len }
+    pub(crate) fn as_slice(&self) -> &[u8]
+        ensures bytes { result.now ≡ self.now.bytes.items }
+        ensures fits { length result.now ≤ 1024 }
     {
-        self.len
+        self.bytes.as_slice()
     }
-}
 
-impl Page<'_> {
     pub(crate) fn byte(&mut self, b: u8)
         ensures { Puts self.old (b ∷ []) self.new }
     {
-        if self.len < self.out.len() {
-            self.out[self.len] = b;
-            self.len += 1;
-        }
+        let _ = self.bytes.try_push(b);
     }
 
     pub(crate) fn text(&mut self, bytes: &[u8])
         ensures { Puts self.old bytes.now self.new }
     {
-        for b in bytes {
-            self.byte(*b);
-        }
+        let _ = self.bytes.try_extend_from_slice(bytes);
     }
 
-    pub(crate) fn number(&mut self, n: u32)
-        ensures { Puts self.old (decimal n) self.new }
+    pub(crate) fn number<I: Integer>(&mut self, n: I)
+        ensures { Puts self.old (I.text n) self.new }
     {
-        if n >= 10 {
-            self.number(n / 10);
-        }
-        self.byte(b'0' + (n % 10) as u8);
+        let mut digits = Buffer::new();
+        self.text(digits.format(n).as_bytes());
     }
 }

@@ -3,9 +3,10 @@ ghost use Rattle.std.specs.Prelude.{◌≡◌, Decides};
 ghost use Rattle.line.specs.Grammar.{Line, Reads};
 ghost use Rattle.line.specs.Lines.{heard, said};
 
-use crate::command::Command;
+use crate::command::{Adding, Command};
 use crate::fault::LineFault;
 use crate::field::Reader;
+use order::keys::TrainTag;
 
 // The most bytes of a line.
 const LONGEST: usize = 80;
@@ -22,14 +23,14 @@ fn command(letter: u8, left: &[u8]) -> Option<Command<'_>>
 {
     let mut reader = Reader::new(left);
     let command = match char::from(letter) {
-        'A' => Command::Add {
+        'A' => Command::Add(Adding {
             number: reader.number()?,
             place: reader.number()?,
             first: reader.number()?,
             last: reader.number()?,
             classes: reader.capitals()?,
             route: reader.number()?,
-        },
+        }),
         'D' => Command::Drop {
             number: reader.number()?,
         },
@@ -37,21 +38,17 @@ fn command(letter: u8, left: &[u8]) -> Option<Command<'_>>
             number: reader.number()?,
             place: reader.number()?,
         },
-        'T' => Command::Join {
+        'T' => Command::Join(TrainTag {
             class: reader.mark()?,
-            train: reader.number()?,
-        },
+            number: reader.number()?,
+        }),
         'S' => Command::Send {
             turnout: reader.number()?,
         },
         'L' => Command::List,
         _ => return None,
     };
-    if reader.left.is_empty() {
-        Some(command)
-    } else {
-        None
-    }
+    reader.left.is_empty().then_some(command)
 }
 
 // The command that a line says, or BadLine where it says none.

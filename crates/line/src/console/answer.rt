@@ -1,8 +1,7 @@
 // The one call of the command line: a line and a slice for its printed answer.
-ghost use Rattle.std.specs.Prelude.{◌≡◌};
-ghost use Rattle.line.specs.Consoles.{Answers, Lasting, Tight, settled};
+ghost use Rattle.line.specs.Consoles.{Answers, Tight};
 
-use crate::answer::{Answer, print};
+use crate::answer::print;
 use crate::console::Console;
 use crate::fault::LineFault;
 use order::key::Key;
@@ -12,27 +11,16 @@ use order::set::OrderedSet;
 // The fewest bytes that a printed answer is given room in.
 const ROOM: usize = 1024;
 
-// A refusal is an answer too.
-fn settle(res: Result<Answer, LineFault>) -> Answer
-    ensures { result ≡ settled res }
-{
-    match res {
-        Ok(answer) => answer,
-        Err(fault) => Answer::Refused(fault),
-    }
-}
-
 impl<R: OrderedSet<RuleNumber>, Y: OrderedSet<TrainTag>> Console<R, Y> {
     // Does what a line says, and writes the printed answer and its newline at the front of `out`; answers their length.
     pub fn answer(&mut self, line: &[u8], out: &mut [u8]) -> Result<usize, LineFault>
         ensures small { Tight self.old self.new out.old out.new result }
         ensures answers { Answers R.OrderedSet Y.OrderedSet self.old self.new line.now out.old out.new result }
-        ensures ready { Lasting R.OrderedSet Y.OrderedSet self.old self.new }
     {
         if out.len() < ROOM {
             return Err(LineFault::SmallOut);
         }
-        let answer = settle(self.act(line));
-        Ok(print(&answer, out))
+        let outcome = self.act(line);
+        Ok(print(&outcome, out))
     }
 }

@@ -9,5 +9,5 @@ use Rattle.line.proofs.console.Console.send.Goals as goal
 pub returns : goal.returns
 unfolding Carries
 returns g c =
-    done_sent g.R.OrderedSet g.Y.OrderedSet _ _ (sending c.args.turnout) refl (Send c.args.turnout) c.send.result c.sent.result c.sent.ensures.is refl
-    c.send.ensures.sound (λ h. (c.send.result, refl, c.send.ensures.sends h)) (λ _. c.send.ensures.kept) c.sent.ensures.brief
+    done_sent g.R.OrderedSet g.Y.OrderedSet _ _ (sending c.args.turnout) refl (Send c.args.turnout) c.send.result c.map.result c.map.ensures.cases refl
+    (c.send.result, refl, c.send.ensures.sends) c.send.ensures.kept

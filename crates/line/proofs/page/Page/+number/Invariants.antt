@@ -1,5 +1,0 @@
--- The number falls.
-use Rattle.line.proofs.page.Page.+number.Given as goal
-
-abbrev pub decreases-number : goal.decreases-number
-decreases-number l = l.n
