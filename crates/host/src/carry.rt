@@ -1,49 +1,43 @@
 // Carries out a command on a row list.
 ghost use Rattle.std.specs.Prelude.{◌≡◌, List, []};
 ghost use Rattle.order.specs.declared.keys.RuleNumber.{RuleNumber as Number};
-ghost use Rattle.skip_list.specs.History.{Deed, Told};
-ghost use Rattle.host.specs.Runs.{Right, Served, SplicedIn, held_reply};
-ghost use Rattle.host.specs.Held.{waiting};
+ghost use Rattle.order.specs.Deeds.{Deed};
+ghost use Rattle.skip_list.specs.History.{Told};
+ghost use Rattle.host.specs.Runs.{Served, SplicedIn};
 
 use crate::command::Command;
-use crate::held::Held;
-use crate::reply::{
-    Reply, key_reply, level_reply, link_reply, place_reply, put_reply, splice_reply,
-};
-use order::fault::SetFault;
+use crate::refusal::Refusal;
+use crate::reply::Reply;
+use arrayvec::ArrayVec;
+use layers::above::splice;
 use order::keys::RuleNumber;
 use order::set::OrderedSet;
 use skip_list::list::SkipList;
 
+// The most keys, or draws, that wait.
+const MOST: usize = 256;
+
 // What waits for the next splice.
 #[derive(Drop)]
 pub struct Pending {
-    pub keys: Held<RuleNumber>,
-    pub draws: Held<u32>,
-}
-
-// Whether one more waits is told as done, or refused.
-fn held_reply(held: bool) -> Reply
-    ensures { result ≡ held_reply held }
-{
-    if held {
-        Reply::Done
-    } else {
-        Reply::Refused(SetFault::Full.number())
-    }
+    pub keys: ArrayVec<RuleNumber, MOST>,
+    pub draws: ArrayVec<u32, MOST>,
 }
 
 // Splices in what waits, which then waits no more.
-fn splice(list: &mut SkipList<'_, RuleNumber>, pending: &mut Pending, place: u32) -> Reply
-    ensures right { Right list.old.lent → Right list.new.lent }
-    ensures spliced { Right list.old.lent → (ds : List (Deed Number)) → Told ds list.old.lent → SplicedIn ds list.old.lent place (waiting pending.old.keys) (waiting pending.old.draws) result list.new.lent }
-    ensures keys { waiting pending.new.keys ≡ [] }
-    ensures draws { waiting pending.new.draws ≡ [] }
+fn splice_waiting(
+    list: &mut SkipList<'_, RuleNumber>,
+    pending: &mut Pending,
+    place: u32,
+) -> Result<Reply, Refusal>
+    ensures spliced { (ds : List (Deed Number)) → Told ds list.old.lent → SplicedIn ds list.old.lent place pending.old.keys.items pending.old.draws.items result list.new.lent }
+    ensures keys { pending.new.keys.items ≡ [] }
+    ensures draws { pending.new.draws.items ≡ [] }
 {
-    let spliced = list.splice(place, pending.keys.items(), pending.draws.items());
+    let spliced = splice(list, place, &pending.keys, &pending.draws);
     pending.keys.clear();
     pending.draws.clear();
-    splice_reply(spliced)
+    Ok(Reply::Number(spliced?))
 }
 
 // Carries out a command, and says what it is answered.
@@ -51,33 +45,44 @@ pub fn carry_out(
     list: &mut SkipList<'_, RuleNumber>,
     pending: &mut Pending,
     command: Command,
-) -> Reply
-    ensures right { Right list.old.lent → Right list.new.lent }
-    ensures served { Served list.old.lent pending.old command result list.new.lent pending.new }
+) -> Result<Reply, Refusal>
+    ensures { Served list.old.lent pending.old command result list.new.lent pending.new }
 {
     match command {
-        Command::InsertHead { key, draw } => put_reply(list.insert_head(key, draw)),
-        Command::InsertAfter { before, key, draw } => put_reply(list.insert_after(
-            before, key, draw,
-        )),
-        Command::InsertIndex { place, key, draw } => put_reply(list.insert_index(place, key, draw)),
+        Command::InsertHead { key, draw } => {
+            list.insert_head(key, draw)?;
+            Ok(Reply::Done)
+        }
+        Command::InsertAfter { before, key, draw } => {
+            list.insert_after(before, key, draw)?;
+            Ok(Reply::Done)
+        }
+        Command::InsertIndex { place, key, draw } => {
+            list.insert_index(place, key, draw)?;
+            Ok(Reply::Done)
+        }
         Command::Push { key, draw } => {
             let end = list.length();
-            put_reply(list.insert_index(end, key, draw))
+            list.insert_index(end, key, draw)?;
+            Ok(Reply::Done)
         }
-        Command::HoldKey { key } => held_reply(pending.keys.push(key)),
-        Command::HoldDraw { draw } => held_reply(pending.draws.push(draw)),
-        Command::Splice { place } => splice(list, pending, place),
-        Command::RemoveKey { key } => place_reply(list.remove_key(key)),
-        Command::RemoveIndex { place } => key_reply(list.remove_index(place)),
-        Command::IndexOf { key } => place_reply(list.index_of(key)),
-        Command::KeyOf { place } => key_reply(list.key_of(place)),
-        Command::Length => Reply::Number(list.length()),
-        Command::Capacity => Reply::Number(list.capacity()),
-        Command::Level { key } => level_reply(list.level_report(key)),
-        Command::Links { key, level } => link_reply(list.link_report(Some(key), level)),
-        Command::HeadLinks { level } => link_reply(list.link_report(None, level)),
-        Command::NoLetter => Reply::Unknown,
-        Command::Short => Reply::CutOff,
+        Command::HoldKey { key } => {
+            pending.keys.try_push(key)?;
+            Ok(Reply::Done)
+        }
+        Command::HoldDraw { draw } => {
+            pending.draws.try_push(draw)?;
+            Ok(Reply::Done)
+        }
+        Command::Splice { place } => splice_waiting(list, pending, place),
+        Command::RemoveKey { key } => Ok(list.remove_key(key).into()),
+        Command::RemoveIndex { place } => Ok(list.remove_index(place).into()),
+        Command::IndexOf { key } => Ok(list.index_of(key).into()),
+        Command::KeyOf { place } => Ok(list.key_of(place).into()),
+        Command::Length => Ok(Reply::Number(list.length())),
+        Command::Capacity => Ok(Reply::Number(list.capacity())),
+        Command::Level { key } => Ok(list.level_report(key).map(u32::from).into()),
+        Command::Links { key, level } => Ok(Reply::Linked(list.link_report(Some(key), level)?)),
+        Command::HeadLinks { level } => Ok(Reply::Linked(list.link_report(None, level)?)),
     }
 }

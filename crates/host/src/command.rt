@@ -1,8 +1,7 @@
-// A command, and how it is read from its twelve bytes.
-ghost use Rattle.std.specs.Prelude.{◌≡◌, ◌+◌, ◌≤◌, length};
-ghost use Rattle.host.specs.Bytes.{two, four};
+// A command, and how it is read from its twelve bytes: a value and no closure, since the bytes decide.
 ghost use Rattle.host.specs.Commands.{Reads};
 
+use crate::refusal::Refusal;
 use order::keys::RuleNumber;
 
 // The number of bytes of a command.
@@ -61,72 +60,41 @@ pub enum Command {
     HeadLinks {
         level: u8,
     },
-    NoLetter,
-    Short,
-}
-
-// The number in two bytes, the low one first.
-fn two_at(bytes: &[u8], at: usize) -> u16
-    requires { at + 2 ≤ length bytes.now }
-    ensures { result ≡ two bytes.now at }
-{
-    bytes[at] as u16 + 256 * bytes[at + 1] as u16
-}
-
-// The number in four bytes, the low one first.
-fn four_at(bytes: &[u8], at: usize) -> u32
-    requires { at + 4 ≤ length bytes.now }
-    ensures { result ≡ four bytes.now at }
-{
-    two_at(bytes, at) as u32 + 65536 * two_at(bytes, at + 2) as u32
-}
-
-fn key_at(bytes: &[u8], at: usize) -> RuleNumber
-    requires { at + 2 ≤ length bytes.now }
-    ensures { result.value ≡ two bytes.now at }
-{
-    RuleNumber {
-        value: two_at(bytes, at),
-    }
-}
-
-// Reads a whole command.
-fn read_whole(bytes: &[u8]) -> Command
-    requires { 12 ≤ length bytes.now }
-    ensures { Reads bytes.now result }
-{
-    let key = key_at(bytes, 2);
-    let before = key_at(bytes, 4);
-    let place = four_at(bytes, 4);
-    let draw = four_at(bytes, 8);
-    let level = bytes[1];
-    match bytes[0] {
-        b'H' => Command::InsertHead { key, draw },
-        b'A' => Command::InsertAfter { before, key, draw },
-        b'I' => Command::InsertIndex { place, key, draw },
-        b'P' => Command::Push { key, draw },
-        b'Q' => Command::HoldKey { key },
-        b'W' => Command::HoldDraw { draw },
-        b'S' => Command::Splice { place },
-        b'R' => Command::RemoveKey { key },
-        b'X' => Command::RemoveIndex { place },
-        b'i' => Command::IndexOf { key },
-        b'k' => Command::KeyOf { place },
-        b'n' => Command::Length,
-        b'c' => Command::Capacity,
-        b'v' => Command::Level { key },
-        b'l' => Command::Links { key, level },
-        b'h' => Command::HeadLinks { level },
-        _ => Command::NoLetter,
-    }
 }
 
 // Reads the bytes of a command, of which there may be too few.
-pub fn read(bytes: &[u8]) -> Command
+pub fn read(bytes: &[u8]) -> Result<Command, Refusal>
     ensures { Reads bytes.now result }
 {
-    if bytes.len() < SIZE {
-        return Command::Short;
+    let Some(&whole) = bytes.first_chunk::<SIZE>() else {
+        return Err(Refusal::CutOff);
+    };
+    let [letter, level, k0, k1, p0, p1, p2, p3, d0, d1, d2, d3] = whole;
+    let key = RuleNumber {
+        value: u16::from_le_bytes([k0, k1]),
+    };
+    let before = RuleNumber {
+        value: u16::from_le_bytes([p0, p1]),
+    };
+    let place = u32::from_le_bytes([p0, p1, p2, p3]);
+    let draw = u32::from_le_bytes([d0, d1, d2, d3]);
+    match letter {
+        b'H' => Ok(Command::InsertHead { key, draw }),
+        b'A' => Ok(Command::InsertAfter { before, key, draw }),
+        b'I' => Ok(Command::InsertIndex { place, key, draw }),
+        b'P' => Ok(Command::Push { key, draw }),
+        b'Q' => Ok(Command::HoldKey { key }),
+        b'W' => Ok(Command::HoldDraw { draw }),
+        b'S' => Ok(Command::Splice { place }),
+        b'R' => Ok(Command::RemoveKey { key }),
+        b'X' => Ok(Command::RemoveIndex { place }),
+        b'i' => Ok(Command::IndexOf { key }),
+        b'k' => Ok(Command::KeyOf { place }),
+        b'n' => Ok(Command::Length),
+        b'c' => Ok(Command::Capacity),
+        b'v' => Ok(Command::Level { key }),
+        b'l' => Ok(Command::Links { key, level }),
+        b'h' => Ok(Command::HeadLinks { level }),
+        _ => Err(Refusal::Unknown),
     }
-    read_whole(bytes)
 }
