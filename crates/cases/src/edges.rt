@@ -1,12 +1,12 @@
 // Every refusal of an ordered set at its edge: one short, exact, one past. Each set comes empty, with room for three keys.
-use crate::sample::{Sample, is_key, refusal};
+use crate::sample::{Sample, refusal};
 use crate::tally::Tally;
 use order::key::Key;
 use order::keys::{RuleNumber, TrainTag};
 use order::plain_row::PlainRow;
 use order::set::OrderedSet;
 
-fn empty<K: Sample, S: OrderedSet<K>>(tally: &mut Tally, set: &mut S) {
+fn empty<K: Sample, S: OrderedSet<K>>(tally: &mut Tally<'_>, set: &mut S) {
     tally.check("an empty set has length 0", set.length() == 0);
     tally.check("room for three", set.capacity() == 3);
     tally.check("no key at place 0", set.key_of(0).is_none());
@@ -38,7 +38,7 @@ fn empty<K: Sample, S: OrderedSet<K>>(tally: &mut Tally, set: &mut S) {
 }
 
 // Fills the set with 1, 2, 3 in this order.
-fn filling<K: Sample, S: OrderedSet<K>>(tally: &mut Tally, set: &mut S) {
+fn filling<K: Sample, S: OrderedSet<K>>(tally: &mut Tally<'_>, set: &mut S) {
     tally.check("a head", refusal(set.insert_head(K::sample(1), 7)) == 0);
     tally.check(
         "a present key is refused at the head",
@@ -68,13 +68,13 @@ fn filling<K: Sample, S: OrderedSet<K>>(tally: &mut Tally, set: &mut S) {
         "at length 2, place 2 is accepted",
         refusal(set.insert_index(2, K::sample(3), u32::MAX)) == 0,
     );
-    tally.check("1 stands first", is_key(set.key_of(0), K::sample(1)));
-    tally.check("2 stands second", is_key(set.key_of(1), K::sample(2)));
-    tally.check("3 stands third", is_key(set.key_of(2), K::sample(3)));
+    tally.check("1 stands first", set.key_of(0) == Some(K::sample(1)));
+    tally.check("2 stands second", set.key_of(1) == Some(K::sample(2)));
+    tally.check("3 stands third", set.key_of(2) == Some(K::sample(3)));
     tally.check("none stands fourth", set.key_of(3).is_none());
 }
 
-fn full<K: Sample, S: OrderedSet<K>>(tally: &mut Tally, set: &mut S) {
+fn full<K: Sample, S: OrderedSet<K>>(tally: &mut Tally<'_>, set: &mut S) {
     tally.check("length 3", set.length() == 3);
     tally.check(
         "a present key on a full set",
@@ -117,7 +117,7 @@ fn full<K: Sample, S: OrderedSet<K>>(tally: &mut Tally, set: &mut S) {
 }
 
 // Takes keys out, and puts others in where they stood.
-fn emptying<K: Sample, S: OrderedSet<K>>(tally: &mut Tally, set: &mut S) {
+fn emptying<K: Sample, S: OrderedSet<K>>(tally: &mut Tally<'_>, set: &mut S) {
     tally.check(
         "the middle key leaves place 1",
         set.remove_key(K::sample(2)) == Some(1),
@@ -127,7 +127,7 @@ fn emptying<K: Sample, S: OrderedSet<K>>(tally: &mut Tally, set: &mut S) {
     tally.check("nothing stands at place 2", set.remove_index(2).is_none());
     tally.check(
         "the first leaves by its place",
-        is_key(set.remove_index(0), K::sample(1)),
+        set.remove_index(0) == Some(K::sample(1)),
     );
     tally.check("one is left", set.length() == 1);
     tally.check(
@@ -138,17 +138,17 @@ fn emptying<K: Sample, S: OrderedSet<K>>(tally: &mut Tally, set: &mut S) {
         "another takes the last room",
         refusal(set.insert_index(1, K::sample(8), 5)) == 0,
     );
-    tally.check("3, 8, 1: first", is_key(set.key_of(0), K::sample(3)));
-    tally.check("3, 8, 1: second", is_key(set.key_of(1), K::sample(8)));
-    tally.check("3, 8, 1: third", is_key(set.key_of(2), K::sample(1)));
-    tally.check("the last leaves", is_key(set.remove_index(2), K::sample(1)));
+    tally.check("3, 8, 1: first", set.key_of(0) == Some(K::sample(3)));
+    tally.check("3, 8, 1: second", set.key_of(1) == Some(K::sample(8)));
+    tally.check("3, 8, 1: third", set.key_of(2) == Some(K::sample(1)));
+    tally.check("the last leaves", set.remove_index(2) == Some(K::sample(1)));
     tally.check("then 8", set.remove_key(K::sample(8)) == Some(1));
     tally.check("then 3", set.remove_key(K::sample(3)) == Some(0));
     tally.check("empty again", set.length() == 0);
 }
 
 // All edges of an empty set with room for three.
-pub(crate) fn edges<K: Sample, S: OrderedSet<K>>(tally: &mut Tally, set: &mut S) {
+pub(crate) fn edges<K: Sample, S: OrderedSet<K>>(tally: &mut Tally<'_>, set: &mut S) {
     empty::<K, S>(tally, set);
     filling::<K, S>(tally, set);
     full::<K, S>(tally, set);
@@ -156,7 +156,7 @@ pub(crate) fn edges<K: Sample, S: OrderedSet<K>>(tally: &mut Tally, set: &mut S)
 }
 
 // The plain row, at both key types, over no cell, and over more cells than it takes.
-pub(crate) fn plain_rows(tally: &mut Tally) {
+pub(crate) fn plain_rows(tally: &mut Tally<'_>) {
     let mut numbers = [RuleNumber { value: 0 }; 3];
     edges::<RuleNumber, _>(tally, &mut PlainRow::new(&mut numbers));
     let mut tags = [TrainTag {

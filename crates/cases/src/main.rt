@@ -15,7 +15,7 @@ use std::io;
 use tally::Tally;
 
 fn main(rt: HostRuntime) -> io::Result<()> {
-    let mut tally = Tally::new();
+    let mut tally = Tally::default();
     edges::plain_rows(&mut tally);
     tally.close(&rt, "plain row")?;
     piles::piles(&mut tally);

@@ -1,4 +1,5 @@
 // A plain model of an ordered set: the linear list, written down as simply as it goes.
+use order::fault::SetFault;
 use order::key::Key;
 use std::alloc::{AllocError, Global};
 
@@ -17,36 +18,39 @@ impl<K: Key> Model<K> {
     }
 
     pub(crate) fn place_of(&self, key: K) -> Option<usize> {
-        for (place, other) in self.keys.iter().enumerate() {
-            if other.same(&key) {
-                return Some(place);
-            }
-        }
-        None
+        self.keys.iter().position(|other| *other == key)
     }
 
-    // The number of the refusal, or 0 where the key went in.
-    pub(crate) fn insert(&mut self, place: usize, key: K) -> Result<u8, AllocError> {
+    // What the set is to answer, where there is memory for it.
+    pub(crate) fn insert(
+        &mut self,
+        place: usize,
+        key: K,
+    ) -> Result<Result<(), SetFault>, AllocError> {
         if self.place_of(key).is_some() {
-            return Ok(1);
+            return Ok(Err(SetFault::Present));
         }
         if place > self.keys.len() {
-            return Ok(3);
+            return Ok(Err(SetFault::PastEnd));
         }
         if self.keys.len() >= self.room {
-            return Ok(4);
+            return Ok(Err(SetFault::Full));
         }
         self.keys.insert(place, key)?;
-        Ok(0)
+        Ok(Ok(()))
     }
 
-    pub(crate) fn insert_after(&mut self, before: K, key: K) -> Result<u8, AllocError> {
+    pub(crate) fn insert_after(
+        &mut self,
+        before: K,
+        key: K,
+    ) -> Result<Result<(), SetFault>, AllocError> {
         if self.place_of(key).is_some() {
-            return Ok(1);
+            return Ok(Err(SetFault::Present));
         }
         match self.place_of(before) {
             Some(place) if place < self.keys.len() => self.insert(place + 1, key),
-            _ => Ok(2),
+            _ => Ok(Err(SetFault::NoPredecessor)),
         }
     }
 

@@ -11,21 +11,21 @@ use order::keys::RuleNumber;
 use order::plain_row::PlainRow;
 use order::set::OrderedSet;
 
-fn limit_over_last_place(tally: &mut Tally) {
+fn limit_over_last_place(tally: &mut Tally<'_>) {
     let mut cells = [RuleNumber { value: 0 }; 8];
     let mut row = PlainRow::new(&mut cells);
     let mut pile = Limit::new(LastPlace::new(Loan::new(&mut row)), 3);
     edges::<RuleNumber, _>(tally, &mut pile);
 }
 
-fn last_place_over_limit(tally: &mut Tally) {
+fn last_place_over_limit(tally: &mut Tally<'_>) {
     let mut cells = [RuleNumber { value: 0 }; 8];
     let mut row = PlainRow::new(&mut cells);
     let mut pile = LastPlace::new(Limit::new(Loan::new(&mut row), 3));
     edges::<RuleNumber, _>(tally, &mut pile);
 }
 
-fn two_limits(tally: &mut Tally) {
+fn two_limits(tally: &mut Tally<'_>) {
     let mut cells = [RuleNumber { value: 0 }; 8];
     let mut row = PlainRow::new(&mut cells);
     let mut pile = Limit::new(Limit::new(Loan::new(&mut row), 3), 5);
@@ -34,7 +34,7 @@ fn two_limits(tally: &mut Tally) {
     edges::<RuleNumber, _>(tally, &mut pile);
 }
 
-fn two_last_places(tally: &mut Tally) {
+fn two_last_places(tally: &mut Tally<'_>) {
     let mut cells = [RuleNumber { value: 0 }; 3];
     let mut row = PlainRow::new(&mut cells);
     let mut pile = LastPlace::new(LastPlace::new(Loan::new(&mut row)));
@@ -42,7 +42,7 @@ fn two_last_places(tally: &mut Tally) {
 }
 
 // A limit over a set that holds two already is never less than two.
-fn limit_made_late(tally: &mut Tally) {
+fn limit_made_late(tally: &mut Tally<'_>) {
     let mut cells = [RuleNumber { value: 0 }; 4];
     let mut row = PlainRow::new(&mut cells);
     let _ = push(&mut row, RuleNumber { value: 1 }, 0);
@@ -67,7 +67,7 @@ fn limit_made_late(tally: &mut Tally) {
     tally.check("no more than the room below", wide.capacity() == 4);
 }
 
-pub(crate) fn piles(tally: &mut Tally) {
+pub(crate) fn piles(tally: &mut Tally<'_>) {
     limit_over_last_place(tally);
     last_place_over_limit(tally);
     two_limits(tally);

@@ -1,5 +1,5 @@
 // Push, splice and the cursor, over a plain row and over a pile.
-use crate::sample::{is_key, refusal, splice_refusal};
+use crate::sample::{A, B, C, is_order, refusal};
 use crate::tally::Tally;
 use layers::above::{push, splice};
 use layers::cursor::Cursor;
@@ -11,54 +11,32 @@ use order::keys::RuleNumber;
 use order::plain_row::PlainRow;
 use order::set::OrderedSet;
 
-const A: RuleNumber = RuleNumber { value: 1 };
-
-const B: RuleNumber = RuleNumber { value: 2 };
-
-const C: RuleNumber = RuleNumber { value: 3 };
-
 const X: RuleNumber = RuleNumber { value: 7 };
 
 const Y: RuleNumber = RuleNumber { value: 8 };
 
-// Whether the order is the one given.
-pub(crate) fn is_order<S: OrderedSet<RuleNumber>>(set: &mut S, keys: &[RuleNumber]) -> bool {
-    for (place, key) in keys.iter().enumerate() {
-        let Ok(place) = u32::try_from(place) else {
-            return false;
-        };
-        if !is_key(set.key_of(place), *key) {
-            return false;
-        }
-    }
-    set.length() as usize == keys.len()
-}
-
 // Refusals of a splice, into a set that holds a, b, c and has room for six.
-fn refusals<S: OrderedSet<RuleNumber>>(tally: &mut Tally, set: &mut S) {
-    tally.check("uneven", splice_refusal(splice(set, 0, &[X, Y], &[0])) == 5);
+fn refusals<S: OrderedSet<RuleNumber>>(tally: &mut Tally<'_>, set: &mut S) {
+    tally.check("uneven", refusal(splice(set, 0, &[X, Y], &[0])) == 5);
     tally.check(
         "uneven before past the end",
-        splice_refusal(splice(set, 9, &[X], &[])) == 5,
+        refusal(splice(set, 9, &[X], &[])) == 5,
     );
-    tally.check(
-        "past the end",
-        splice_refusal(splice(set, 4, &[X], &[0])) == 3,
-    );
+    tally.check("past the end", refusal(splice(set, 4, &[X], &[0])) == 3);
     tally.check(
         "past the end before full",
-        splice_refusal(splice(set, 4, &[X, Y, A, B], &[0; 4])) == 3,
+        refusal(splice(set, 4, &[X, Y, A, B], &[0; 4])) == 3,
     );
     tally.check(
         "present keys count against the room",
-        splice_refusal(splice(set, 0, &[A, B, C, A], &[0; 4])) == 4,
+        refusal(splice(set, 0, &[A, B, C, A], &[0; 4])) == 4,
     );
     tally.check("nothing was altered", is_order(set, &[A, B, C]));
     tally.check("an empty splice", splice(set, 3, &[], &[]) == Ok(0));
 }
 
 // The worked example, and a key that stands twice in the slice.
-fn spliced<S: OrderedSet<RuleNumber>>(tally: &mut Tally, set: &mut S) {
+fn spliced<S: OrderedSet<RuleNumber>>(tally: &mut Tally<'_>, set: &mut S) {
     tally.check(
         "a at the end of nothing",
         refusal(push(set, A, 1 << 30)) == 0,
@@ -86,13 +64,13 @@ fn spliced<S: OrderedSet<RuleNumber>>(tally: &mut Tally, set: &mut S) {
 }
 
 // A cursor over a b c, of which b leaves before it is given.
-fn walked<S: OrderedSet<RuleNumber>>(tally: &mut Tally, set: &mut S) {
+fn walked<S: OrderedSet<RuleNumber>>(tally: &mut Tally<'_>, set: &mut S) {
     let mut cursor = Cursor::first(set);
-    tally.check("a first", is_key(cursor.step(set), A));
-    tally.check("then b", is_key(cursor.step(set), B));
-    tally.check("then c", is_key(cursor.step(set), C));
+    tally.check("a first", cursor.step(set) == Some(A));
+    tally.check("then b", cursor.step(set) == Some(B));
+    tally.check("then c", cursor.step(set) == Some(C));
     let mut late = Cursor::first(set);
-    tally.check("a again", is_key(late.step(set), A));
+    tally.check("a again", late.step(set) == Some(A));
     tally.check("b leaves", set.remove_key(B) == Some(1));
     tally.check("b is not given", late.step(set).is_none());
     tally.check("and none after it", late.step(set).is_none());
@@ -102,31 +80,27 @@ fn walked<S: OrderedSet<RuleNumber>>(tally: &mut Tally, set: &mut S) {
 }
 
 // An emptied set gives a cursor nothing; a key that moved is followed to where it stands.
-fn wandering<S: OrderedSet<RuleNumber>>(tally: &mut Tally, set: &mut S) {
+fn wandering<S: OrderedSet<RuleNumber>>(tally: &mut Tally<'_>, set: &mut S) {
     let mut none = Cursor::first(set);
     tally.check("nothing to give", none.step(set).is_none());
     let _ = splice(set, 0, &[A, B, C], &[0, 0, 0]);
     let mut cursor = Cursor::first(set);
     let _ = set.remove_key(A);
     let _ = push(set, A, 0);
-    tally.check("a, wherever it stands", is_key(cursor.step(set), A));
+    tally.check("a, wherever it stands", cursor.step(set) == Some(A));
     tally.check("nothing behind it", cursor.step(set).is_none());
 }
 
-fn over_plain_row(tally: &mut Tally) {
+fn over_plain_rows(tally: &mut Tally<'_>) {
     let mut cells = [A; 6];
     let mut row = PlainRow::new(&mut cells);
     spliced(tally, &mut row);
     walked(tally, &mut row);
-}
-
-fn over_plain_row_again(tally: &mut Tally) {
     let mut cells = [A; 6];
-    let mut row = PlainRow::new(&mut cells);
-    wandering(tally, &mut row);
+    wandering(tally, &mut PlainRow::new(&mut cells));
 }
 
-fn over_pile(tally: &mut Tally) {
+fn over_pile(tally: &mut Tally<'_>) {
     let mut cells = [A; 9];
     let mut row = PlainRow::new(&mut cells);
     let mut pile = Limit::new(LastPlace::new(Loan::new(&mut row)), 6);
@@ -134,8 +108,7 @@ fn over_pile(tally: &mut Tally) {
     walked(tally, &mut pile);
 }
 
-pub(crate) fn examples(tally: &mut Tally) {
-    over_plain_row(tally);
-    over_plain_row_again(tally);
+pub(crate) fn examples(tally: &mut Tally<'_>) {
+    over_plain_rows(tally);
     over_pile(tally);
 }

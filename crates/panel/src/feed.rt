@@ -1,8 +1,11 @@
 // Feeds an input to a desk line by line, and writes each answer as soon as its line is there.
-use crate::gather::Gather;
+use arrayvec::ArrayVec;
 use desk::desk::Desk;
 use std::io;
 use std::io::{Read, Write};
+
+// The bytes of one line as they come in. A line over 80 bytes is no command whatever follows, so 81 of its bytes are enough.
+type Line = ArrayVec<u8, 81>;
 
 // Answers one line.
 fn reply(rt: &HostRuntime, desk: &mut Desk<'_, '_, '_, '_>, line: &[u8]) -> io::Result<()> {
@@ -13,35 +16,23 @@ fn reply(rt: &HostRuntime, desk: &mut Desk<'_, '_, '_, '_>, line: &[u8]) -> io::
     }
 }
 
-// Answers the lines that end in a chunk of input, and keeps what has come of the next.
+// Answers the lines that end in a chunk of input, and keeps what has come of the next. It shares no loop with other programs: a
+// closure over the desk, the line and the output would be no plainer.
 fn take_in(
     rt: &HostRuntime,
     desk: &mut Desk<'_, '_, '_, '_>,
-    line: &mut Gather,
+    line: &mut Line,
     chunk: &[u8],
 ) -> io::Result<()> {
     for byte in chunk {
         if *byte == b'\n' {
-            reply(rt, desk, line.line())?;
+            reply(rt, desk, line)?;
             line.clear();
         } else {
-            line.push(*byte);
+            let _ = line.try_push(*byte);
         }
     }
     Ok(())
-}
-
-// Takes in what the input has now; false at its end.
-fn pump<R: Read>(
-    rt: &HostRuntime,
-    input: &mut R,
-    desk: &mut Desk<'_, '_, '_, '_>,
-    line: &mut Gather,
-) -> io::Result<bool> {
-    let mut chunk = [0u8; 4096];
-    let got = input.read(&mut chunk)?;
-    take_in(rt, desk, line, &chunk[0..got])?;
-    Ok(got > 0)
 }
 
 // Answers every line of the input; the last may lack its newline.
@@ -50,14 +41,18 @@ pub(crate) fn feed<R: Read>(
     input: &mut R,
     desk: &mut Desk<'_, '_, '_, '_>,
 ) -> io::Result<()> {
-    let mut line = Gather::new();
+    let mut line = Line::new();
+    // In chunks and not by `lines`: a line may have any length and any bytes, and memory stays flat. A bare `loop` would need a handle to wait.
     for _ in 0..u64::MAX {
-        if !pump(rt, input, desk, &mut line)? {
+        let mut chunk = [0u8; 4096];
+        let got = input.read(&mut chunk)?;
+        if got == 0 {
             break;
         }
+        take_in(rt, desk, &mut line, &chunk[..got])?;
     }
     if line.is_empty() {
         return Ok(());
     }
-    reply(rt, desk, line.line())
+    reply(rt, desk, &line)
 }

@@ -2,7 +2,6 @@
 #![tactic(auto)]
 
 mod feed;
-mod gather;
 
 use desk::desk::Desk;
 use feed::feed;

@@ -1,14 +1,13 @@
-// A recorded script: its commands, and the report that was recorded of each.
-ghost use Rattle.std.specs.Prelude.{◌≤◌};
-
-use crate::hex::read_bytes;
-use host::run::run;
+// A recorded script: its commands, and the reports that were recorded of them.
+use arrayvec::ArrayVec;
+use hex::FromHex;
+use host::order_host_run;
 
 // The most commands of a script.
 const MOST: usize = 4096;
 
 // How many reports were as recorded, and how many not.
-#[derive(Drop)]
+#[derive(Default, Drop)]
 pub struct Tally {
     pub scripts: u32,
     pub equal: u32,
@@ -17,89 +16,72 @@ pub struct Tally {
 }
 
 impl Tally {
-    pub fn new() -> Tally {
-        Tally {
-            scripts: 0,
-            equal: 0,
-            other: 0,
-            unread: 0,
-        }
-    }
-
-    fn count(&mut self, equal: bool) {
-        if equal {
-            self.equal = self.equal.saturating_add(1);
-        } else {
-            self.other = self.other.saturating_add(1);
+    // Counts the reports that are as recorded, and those that are not.
+    fn compare(&mut self, reports: &[u8], recorded: &[u8]) {
+        for (report, expected) in reports.chunks_exact(16).zip(recorded.chunks_exact(16)) {
+            if report == expected {
+                self.equal = self.equal.saturating_add(1);
+            } else {
+                self.other = self.other.saturating_add(1);
+            }
         }
     }
 }
 
+// A recorded command with its report.
+#[derive(Drop)]
+struct Entry {
+    command: [u8; 12],
+    report: [u8; 16],
+}
+
+// The entry of a line: 24 small digits, a space and 32 more.
+fn parsed(line: &[u8]) -> Option<Entry> {
+    if line.iter().any(u8::is_ascii_uppercase) {
+        return None;
+    }
+    let (command, report) = str::from_utf8(line).ok()?.split_once(' ')?;
+    let command = <[u8; 12]>::from_hex(command).ok()?;
+    let report = <[u8; 16]>::from_hex(report).ok()?;
+    Some(Entry { command, report })
+}
+
+// The bytes of the commands, twelve of each, and of the reports, sixteen of each: the host's call takes and gives them in a row.
 #[derive(Drop)]
 pub struct Script {
-    commands: [u8; 12 * MOST],
-    expected: [u8; 16 * MOST],
-    count: usize,
-    ghost within: { count ≤ 4096 },
-}
-
-// Counts the reports that are as expected, and those that are not.
-fn compare(reports: &[u8], expected: &[u8], tally: &mut Tally) {
-    let count = reports.len().min(expected.len()) / 16;
-    for i in 0..count {
-        let at = 16 * i;
-        let report = &reports[at..at + 16];
-        tally.count(report == &expected[at..at + 16]);
-    }
-}
-
-// Runs the commands, and compares every report.
-fn replayed(commands: &[u8], expected: &[u8], tally: &mut Tally) {
-    let mut out = [255u8; 16 * MOST];
-    let _ = run(commands, &mut out);
-    compare(&out, expected, tally);
+    commands: ArrayVec<u8, 49152>,
+    recorded: ArrayVec<u8, 65536>,
 }
 
 impl Script {
     pub fn new() -> Script {
         Script {
-            commands: [0; 12 * MOST],
-            expected: [0; 16 * MOST],
-            count: 0,
+            commands: ArrayVec::new(),
+            recorded: ArrayVec::new(),
         }
     }
 
-    // One more command with its report, from a line: 24 digits, a space and 32 digits.
+    // One more command with its report.
     pub fn add(&mut self, line: &[u8], tally: &mut Tally) {
-        if line.len() != 57 || self.count == MOST {
-            tally.unread = tally.unread.saturating_add(1);
-            return;
+        match parsed(line) {
+            Some(entry) if self.commands.len() / 12 < MOST => {
+                let _ = self.commands.try_extend_from_slice(&entry.command);
+                let _ = self.recorded.try_extend_from_slice(&entry.report);
+            }
+            _ => tally.unread = tally.unread.saturating_add(1),
         }
-        let at = self.count;
-        let command = read_bytes(line, 0, &mut self.commands[12 * at..12 * at + 12]);
-        let report = read_bytes(line, 25, &mut self.expected[16 * at..16 * at + 16]);
-        if command && report && line[24] == b' ' {
-            self.count = at + 1;
-        } else {
-            tally.unread = tally.unread.saturating_add(1);
-        }
-    }
-
-    fn asked(&self) -> &[u8] {
-        &self.commands[0..12 * self.count]
-    }
-
-    fn recorded(&self) -> &[u8] {
-        &self.expected[0..16 * self.count]
     }
 
     // Replays what was recorded, and begins anew.
     pub fn replay(&mut self, tally: &mut Tally) {
-        if self.count == 0 {
+        if self.commands.is_empty() {
             return;
         }
-        replayed(self.asked(), self.recorded(), tally);
+        let mut reports = [255u8; 16 * MOST];
+        let _ = order_host_run(&self.commands, &mut reports);
+        tally.compare(&reports, &self.recorded);
         tally.scripts = tally.scripts.saturating_add(1);
-        self.count = 0;
+        self.commands.clear();
+        self.recorded.clear();
     }
 }

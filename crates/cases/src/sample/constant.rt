@@ -5,7 +5,7 @@ ghost use Rattle.std.proofs.Common.{rules};
 use crate::sample::Sample;
 use order::key::{HashKey, Key};
 
-#[derive(Clone, Copy)]
+#[derive(Clone, Copy, Debug, PartialEq, Eq)]
 pub struct Same {
     pub value: u16,
 }
@@ -13,11 +13,7 @@ pub struct Same {
 impl Key for Same {
     ghost identity = { λ k. k.value ∷ [] };
 
-    ghost whole = { Prim.search rules };
-
-    fn same(&self, other: &Same) -> bool {
-        self.value == other.value
-    }
+    ghost same = { Prim.search rules };
 }
 
 impl HashKey for Same {
