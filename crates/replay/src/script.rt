@@ -1,4 +1,7 @@
 // A recorded script: its commands, and the reports that were recorded of them.
+ghost use Rattle.std.specs.Prelude.{◌≡◌, ◌↔◌, true, []};
+ghost use Rattle.replay.specs.Scripts.{Added, Replayed, Room};
+
 use arrayvec::ArrayVec;
 use hex::FromHex;
 use host::order_host_run;
@@ -17,7 +20,10 @@ pub struct Tally {
 
 impl Tally {
     // Counts the reports that are as recorded, and those that are not.
-    fn compare(&mut self, reports: &[u8], recorded: &[u8]) {
+    fn compare(&mut self, reports: &[u8], recorded: &[u8])
+        ensures scripts { self.new.scripts ≡ self.old.scripts }
+        ensures unread { self.new.unread ≡ self.old.unread }
+    {
         for (report, expected) in reports.chunks_exact(16).zip(recorded.chunks_exact(16)) {
             if report == expected {
                 self.equal = self.equal.saturating_add(1);
@@ -54,17 +60,28 @@ pub struct Script {
 }
 
 impl Script {
-    pub fn new() -> Script {
+    pub fn new() -> Script
+        ensures commands { result.commands.items ≡ [] }
+        ensures recorded { result.recorded.items ≡ [] }
+    {
         Script {
             commands: ArrayVec::new(),
             recorded: ArrayVec::new(),
         }
     }
 
-    // One more command with its report.
-    pub fn add(&mut self, line: &[u8], tally: &mut Tally) {
+    fn has_room(&self) -> bool
+        ensures { (result ≡ true) ↔ Room self.now }
+    {
+        self.commands.len() + 12 <= 12 * MOST && self.recorded.len() + 16 <= 16 * MOST
+    }
+
+    // One more command with its report, or one more line that was not read.
+    pub fn add(&mut self, line: &[u8], tally: &mut Tally)
+        ensures { Added self.old tally.old self.new tally.new }
+    {
         match parsed(line) {
-            Some(entry) if self.commands.len() / 12 < MOST => {
+            Some(entry) if self.has_room() => {
                 let _ = self.commands.try_extend_from_slice(&entry.command);
                 let _ = self.recorded.try_extend_from_slice(&entry.report);
             }
@@ -73,7 +90,9 @@ impl Script {
     }
 
     // Replays what was recorded, and begins anew.
-    pub fn replay(&mut self, tally: &mut Tally) {
+    pub fn replay(&mut self, tally: &mut Tally)
+        ensures { Replayed self.old tally.old self.new tally.new }
+    {
         if self.commands.is_empty() {
             return;
         }

@@ -1,0 +1,2 @@
+-- The files of this folder.
+pub mod Scripts
