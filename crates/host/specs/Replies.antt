@@ -29,7 +29,7 @@ mark_number mark.Refused = 5
 mark_number mark.Unknown = 6
 mark_number mark.CutOff = 7
 
-abbrev pub fields : Mark → ℕ → ℕ → ℕ → ℕ → ℕ → ℕ → ℕ → Report
+abbrev pub fields : ℕ → ℕ → ℕ → ℕ → ℕ → ℕ → ℕ → ℕ → Report
 fields m refusal ahead back key behind number count = record {
   mark = m;
   refusal = refusal;
@@ -42,7 +42,7 @@ fields m refusal ahead back key behind number count = record {
 }
 
 -- a mark and nothing else
-abbrev pub blank : Mark → Report
+abbrev pub blank : ℕ → Report
 blank m = fields m 0 0 0 0 0 0 0
 
 -- 1 for a key and 0 for none; the number of a key, and 0 for none
@@ -55,18 +55,21 @@ key_number (Some k) = k.value
 key_number None = 0
 
 abbrev pub reply_report : Reply → Report
-reply_report Done = blank mark.Done
-reply_report (Number n) = fields mark.Number 0 0 0 0 0 n 0
-reply_report (Named k) = fields mark.Named 0 0 0 k.value 0 0 0
-reply_report Nothing = blank mark.Nothing
-reply_report (Linked r) = fields mark.Linked 0 (named r.ahead.key) (named r.back.key) (key_number r.ahead.key) (key_number r.back.key) r.ahead.count r.back.count
+reply_report Done = blank (mark_number mark.Done)
+reply_report (Number n) = fields (mark_number mark.Number) 0 0 0 0 0 n 0
+reply_report (Named k) = fields (mark_number mark.Named) 0 0 0 k.value 0 0 0
+reply_report Nothing = blank (mark_number mark.Nothing)
+reply_report (Linked r) = fields (mark_number mark.Linked) 0 (named r.ahead.key) (named r.back.key) (key_number r.ahead.key) (key_number r.back.key) r.ahead.count r.back.count
 
--- a refusal of the list goes by its number
+-- a refusal by its number
+abbrev pub refused_report : ℕ → Report
+refused_report n = fields (mark_number mark.Refused) n 0 0 0 0 0 0
+
 abbrev pub refusal_report : Refusal → Report
-refusal_report (refusal.Set e) = fields mark.Refused (set_number e) 0 0 0 0 0 0
-refusal_report (refusal.List e) = fields mark.Refused (list_number e) 0 0 0 0 0 0
-refusal_report refusal.Unknown = blank mark.Unknown
-refusal_report refusal.CutOff = blank mark.CutOff
+refusal_report (refusal.Set e) = refused_report (set_number e)
+refusal_report (refusal.List e) = refused_report (list_number e)
+refusal_report refusal.Unknown = blank (mark_number mark.Unknown)
+refusal_report refusal.CutOff = blank (mark_number mark.CutOff)
 
 abbrev pub report_of : Result Reply Refusal → Report
 report_of (Ok r) = reply_report r
@@ -74,7 +77,7 @@ report_of (Err e) = refusal_report e
 
 abbrev pub laid : Report → List ℕ
 laid f =
-    mark_number f.mark ∷ f.refusal ∷ f.ahead ∷ f.back
+    f.mark ∷ f.refusal ∷ f.ahead ∷ f.back
     ∷ f.key % 256 ∷ f.key / 256 % 256 ∷ f.behind % 256 ∷ f.behind / 256 % 256
     ∷ f.number % 256 ∷ f.number / 256 % 256 ∷ f.number / 65536 % 256 ∷ f.number / 16777216 % 256
     ∷ f.count % 256 ∷ f.count / 256 % 256 ∷ f.count / 65536 % 256 ∷ f.count / 16777216 % 256 ∷ []

@@ -1,6 +1,6 @@
 // The sixteen bytes in which a command is answered.
 ghost use Rattle.std.specs.Prelude.{◌≡◌};
-ghost use Rattle.host.specs.Replies.{blank, key_number, laid, named, refusal_report, reply_report, report_of};
+ghost use Rattle.host.specs.Replies.{blank, key_number, laid, mark_number, named, refusal_report, refused_report, reply_report, report_of};
 
 use crate::refusal::Refusal;
 use crate::reply::Reply;
@@ -19,10 +19,10 @@ pub enum Mark {
     CutOff = 7,
 }
 
-// The fields of a report; those that a mark does not use are 0. The C interface needs each at its width: a flag is a byte.
+// The fields of a report; those that a mark does not use are 0. The C interface needs each at its width: a mark is a byte, and so is a flag.
 #[derive(Clone, Copy)]
 pub struct Report {
-    pub mark: Mark,
+    pub mark: u8,
     pub refusal: u8,
     pub ahead: u8,
     pub back: u8,
@@ -34,10 +34,10 @@ pub struct Report {
 
 // A report with a mark and nothing else.
 fn marked(mark: Mark) -> Report
-    ensures { result ≡ blank mark }
+    ensures { result ≡ blank (mark_number mark) }
 {
     Report {
-        mark,
+        mark: mark as u8,
         refusal: 0,
         ahead: 0,
         back: 0,
@@ -45,6 +45,16 @@ fn marked(mark: Mark) -> Report
         behind: 0,
         number: 0,
         count: 0,
+    }
+}
+
+// A report of a refusal by its number, whoever gives it.
+pub fn refused(number: u8) -> Report
+    ensures { result ≡ refused_report number }
+{
+    Report {
+        refusal: number,
+        ..marked(Mark::Refused)
     }
 }
 
@@ -95,14 +105,8 @@ impl From<Refusal> for Report {
 
     fn from(refusal: Refusal) -> Report {
         match refusal {
-            Refusal::Set(fault) => Report {
-                refusal: fault.number(),
-                ..marked(Mark::Refused)
-            },
-            Refusal::List(fault) => Report {
-                refusal: fault.number(),
-                ..marked(Mark::Refused)
-            },
+            Refusal::Set(fault) => refused(fault.number()),
+            Refusal::List(fault) => refused(fault.number()),
             Refusal::Unknown => marked(Mark::Unknown),
             Refusal::CutOff => marked(Mark::CutOff),
         }
@@ -130,7 +134,7 @@ impl Report {
         let [number0, number1, number2, number3] = self.number.to_le_bytes();
         let [count0, count1, count2, count3] = self.count.to_le_bytes();
         [
-            self.mark as u8,
+            self.mark,
             self.refusal,
             self.ahead,
             self.back,
