@@ -41,15 +41,21 @@ struct Entry {
     report: [u8; 16],
 }
 
-// The entry of a line: 24 small digits, a space and 32 more.
+// Whether no byte is a capital: every byte is looked at, so that many are at once.
+fn is_small(line: &[u8]) -> bool {
+    line.iter()
+        .fold(true, |small, byte| small & !byte.is_ascii_uppercase())
+}
+
+// The entry of a line: 24 small digits, a space and 32 more. By places, as every entry has the same.
 fn parsed(line: &[u8]) -> Option<Entry> {
-    if line.iter().any(u8::is_ascii_uppercase) {
+    let (command, rest) = line.split_at_checked(24)?;
+    let Some((b' ', report)) = rest.split_first() else {
         return None;
-    }
-    let (command, report) = str::from_utf8(line).ok()?.split_once(' ')?;
+    };
     let command = <[u8; 12]>::from_hex(command).ok()?;
     let report = <[u8; 16]>::from_hex(report).ok()?;
-    Some(Entry { command, report })
+    is_small(line).then_some(Entry { command, report })
 }
 
 // The bytes of the commands, twelve of each, and of the reports, sixteen of each: the host's call takes and gives them in a row.
