@@ -41,13 +41,13 @@ struct Entry {
     report: [u8; 16],
 }
 
-// Whether no byte is a capital: every byte is looked at, so that many are at once.
+// Whether no byte is a capital. With no early way out, many bytes are compared at once.
 fn is_small(line: &[u8]) -> bool {
     line.iter()
         .fold(true, |small, byte| small & !byte.is_ascii_uppercase())
 }
 
-// The entry of a line: 24 small digits, a space and 32 more. By places, as every entry has the same.
+// The entry of a line: 24 small digits, a space and 32 more, each at its place.
 fn parsed(line: &[u8]) -> Option<Entry> {
     let (command, rest) = line.split_at_checked(24)?;
     let Some((b' ', report)) = rest.split_first() else {
